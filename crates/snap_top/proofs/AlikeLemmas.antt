@@ -29,10 +29,10 @@ use Rattle.stripe_reader.specs.Columns.{folder_at}
 use Rattle.stripe_reader.specs.Starts.{StartsValue}
 use Rattle.snap_top.specs.Alike.{FindAlike, FixFindsAlike, ReadAlike, seen_by}
 use Rattle.snap_top.specs.Check.{CheckRun}
-use Rattle.snap_top.specs.Moment.{TellsAll}
+use Rattle.snap_top.specs.Stands.{TellsAll}
 use Rattle.snap_top.specs.Naming.{HasChecked, events_found}
 use Rattle.snap_top.specs.Restoring.{EndsFixed, events_in}
-use Rattle.snap_top.specs.Run.{Entry, Exit}
+use Rattle.snap_top.specs.Entry.{Entry, Exit}
 
 -- ---- what the crates below say
 

@@ -10,15 +10,16 @@ use Rattle.array_setup.specs.Setup.{SetupValue}
 use Rattle.snap_config.specs.declared.options.Command.{Command}
 use Rattle.snap_config.specs.declared.options.Options.{Options}
 use Rattle.snap_sync.specs.Part.{SyncRun}
-use Rattle.snap_top.specs.Alike.{HoldAlike, NothingRose}
+use Rattle.snap_top.specs.Alike.{HoldAlike}
+use Rattle.snap_top.specs.Unbroken.{NothingRose}
 use Rattle.snap_top.specs.Array.{empty_table}
-use Rattle.snap_top.specs.Ended.{IsEndStatus}
+use Rattle.snap_top.specs.Output.{IsEndStatus}
 use Rattle.snap_top.specs.Loading.{Loading, ReadsWell}
-use Rattle.snap_top.specs.Moment.{BreaksBehind, IsDidOf, LoadsWell}
-use Rattle.snap_top.specs.Opening.{IsConfigured, asked_by}
-use Rattle.snap_top.specs.Run.{Entry, Exit}
+use Rattle.snap_top.specs.Effect.{effect}
+use Rattle.snap_top.specs.Asked.{asked_by, IsConfigured}
+use Rattle.snap_top.specs.Entry.{Entry, Exit}
 use Rattle.snap_top.specs.Sync.{BeginsFrom}
-use Rattle.snap_top.specs.Task.{Did, fixes, reads_only, scrubs, syncs}
+use Rattle.snap_top.specs.Did.{Did, fixes, reads_only, scrubs, syncs}
 use Rattle.snap_top.proofs.CompleteLemmas.{same_ok}
 use Rattle.snap_top.proofs.OfSyncLemmas.{failed_since}
 use Rattle.snap_top.proofs.ResumeLemmas.{begins_same}
@@ -50,7 +51,7 @@ pub well_in : (before : Entry) (exit : Exit) {setup : SetupValue} {table : Table
     → ((copy : ℕ) → ¬ (HasFailed before.opener.vault exit.after.vault copy)) → ReadsWell before loading.at
 well_in before exit loading none copy failed = none copy (failed_since before.opener.vault exit.after.vault loading.at loading.later copy failed)
 
-pub loads_well : (before : Entry) (exit : Exit) (did : Did) (is : IsDidOf before exit did) → ((copy : ℕ) → ¬ (HasFailed before.opener.vault exit.after.vault copy)) → LoadsWell before exit did is
+pub loads_well : (before : Entry) (exit : Exit) (did : Did) (is : (effect did).is_of before exit) → ((copy : ℕ) → ¬ (HasFailed before.opener.vault exit.after.vault copy)) → (effect did).loads_well before exit is
 loads_well before exit reads_only is none = tt
 loads_well before exit (syncs failed run) is none = well_in before exit is.loading none
 loads_well before exit (fixes failed run) is none = well_in before exit is.loading none
@@ -60,8 +61,8 @@ loads_well before exit (scrubs failed run) is none = well_in before exit is.load
 rose_twice : (a b c : ℕ) → Rose a b → Rose b c → RoseBy 2 a c
 rose_twice a b c first then_too = omega (arith, first, then_too)
 
-pub once_well : (before : Entry) (exit : Exit) (did : Did) (is : IsDidOf before exit did) → BreaksBehind before exit did is → (sync : SyncRun) → did ≡ syncs true sync
-    → ¬ (RoseBy 2 before.opener.vault.faults exit.after.vault.faults) → LoadsWell before exit did is
+pub once_well : (before : Entry) (exit : Exit) (did : Did) (is : (effect did).is_of before exit) → (effect did).breaks_behind before exit is → (sync : SyncRun) → did ≡ syncs true sync
+    → ¬ (RoseBy 2 before.opener.vault.faults exit.after.vault.faults) → (effect did).loads_well before exit is
 once_well before exit reads_only is broke sync did_is once = tt
 once_well before exit (syncs true run) is broke sync did_is once = λ copy failed. once (rose_twice before.opener.vault.faults is.loading.at.faults exit.after.vault.faults failed.rose broke)
 once_well before exit (syncs false run) is broke sync did_is once = absurd (let clash : syncs false run ≡ syncs true sync = did_is in cc)

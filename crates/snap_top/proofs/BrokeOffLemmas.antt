@@ -25,12 +25,14 @@ use Rattle.snap_top.specs.BrokeOff.{BrokeOff, EndedEarly, RoseOnce, WasRefused, 
 use Rattle.snap_top.specs.Checking.{CheckRefuses, ChecksBy}
 use Rattle.snap_top.specs.Does.{DoesCommand}
 use Rattle.snap_top.specs.Fixing.{FixBroke, FixesBy}
-use Rattle.snap_top.specs.Opening.{IsConfigured}
-use Rattle.snap_top.specs.Run.{Entry, Exit, IsAnswered, IsRun}
+use Rattle.snap_top.specs.Asked.{IsConfigured}
+use Rattle.snap_top.specs.Run.{IsAnswered, IsRun}
+use Rattle.snap_top.specs.Entry.{Entry, Exit}
 use Rattle.snap_top.specs.Scrubbing.{ScrubBreaks, ScrubsBy}
 use Rattle.snap_top.specs.Sync.{BeginsFrom}
 use Rattle.snap_top.specs.Syncing.{SyncBreaks, SyncRefuses, SyncsBy}
-use Rattle.snap_top.specs.Task.{Did, Left, Task, reads_only}
+use Rattle.snap_top.specs.Task.{Left, Task}
+use Rattle.snap_top.specs.Did.{Did, reads_only}
 use Rattle.snap_top.specs.Views.{World, view_of, world_of}
 use Rattle.snap_top.specs.declared.end.Ending.{Ending}
 use Rattle.snap_top.specs.declared.end.Ending.TheVariants.{NotLoaded, NoTable, OtherArray, Answered}

@@ -11,7 +11,7 @@ use Rattle.repair_scope.specs.Plan.{FixPlan, stripes_of}
 use Rattle.snap_top.specs.Alike.{BlocksAlike}
 use Rattle.snap_top.specs.BrokeOff.{FixBrokeOff}
 use Rattle.snap_top.specs.Restoring.{EndsFixed}
-use Rattle.snap_top.specs.Run.{Entry, Exit}
+use Rattle.snap_top.specs.Entry.{Entry, Exit}
 use Rattle.snap_top.proofs.FirstsLemmas.{all_take, facts_take, map_take, take_front}
 use Rattle.snap_top.proofs.MendedAlikeLemmas.{CameToSame}
 use Rattle.snap_top.proofs.SeenLemmas.{NoGifts}

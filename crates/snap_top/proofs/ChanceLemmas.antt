@@ -47,12 +47,13 @@ use Rattle.stripe_reader.specs.Starts.{StartsValue, starts_at}
 use Rattle.stripe_reader.specs.declared.slot.Found.{Found}
 use Rattle.snap_top.specs.Fix.{FixRun}
 use Rattle.snap_top.specs.Headline.{Headline, IsSoundStanding}
-use Rattle.snap_top.specs.History.{AreSoundBy, LastSynced, synced_by}
-use Rattle.snap_top.specs.Moment.{IsDidOf, IsFixOf, IsSyncOf, rows_closed, levels_closed}
-use Rattle.snap_top.specs.Resumed.{RunOf, end_of, entry_of}
-use Rattle.snap_top.specs.Run.{Entry, Exit}
-use Rattle.snap_top.specs.Standing.{BeginsOver, Edits, GoesOver, HasClosed, IsHistory, IsOrigin, LeavesTrees, MeetsNoChance, Runs, Stage, Standing, after_of, before_of}
-use Rattle.snap_top.specs.Task.{Did, fixes, reads_only, scrubs, syncs}
+use Rattle.snap_top.specs.LastSynced.{AreSoundBy, LastSynced, synced_by}
+use Rattle.snap_top.specs.Effect.{effect}
+use Rattle.snap_top.specs.Began.{IsFixOf, IsSyncOf}
+use Rattle.snap_top.specs.RunOf.{end_of, entry_of, RunOf}
+use Rattle.snap_top.specs.Entry.{Entry, Exit}
+use Rattle.snap_top.specs.Standing.{BeginsOver, Edits, GoesOver, IsHistory, IsOrigin, LeavesTrees, Runs, Stage, Standing, after_of, before_of}
+use Rattle.snap_top.specs.Did.{Did, fixes, reads_only, scrubs, syncs}
 use Rattle.snap_top.specs.Undamaged.{IsUndamaged, is_read}
 use Rattle.snap_top.proofs.OfFixLemmas.{loaded_sound}
 use Rattle.snap_top.proofs.OneSizeLemmas.{SavesValidTables}
@@ -83,8 +84,8 @@ record ClosedBy (before : Entry) (exit : Exit) (count : ℕ) (first next : Stand
   trees : next.trees ≡ first.trees
   has_row : rows_after run.plan run.readings count stripe ≡ Some row
 
-closed_by : (before : Entry) (exit : Exit) (count : ℕ) (first next : Standing) (did : Did) → IsDidOf before exit did → HasClosed did count first.files next.files → LeavesTrees did before exit first.trees next.trees
-    → (stripe : ℕ) (row : Row) → rows_closed did count stripe ≡ Some row → ClosedBy before exit count first next stripe row
+closed_by : (before : Entry) (exit : Exit) (count : ℕ) (first next : Standing) (did : Did) → (effect did).is_of before exit → (effect did).has_closed count first.files next.files → LeavesTrees (effect did).writes_files before exit first.trees next.trees
+    → (stripe : ℕ) (row : Row) → (effect did).rows_closed count stripe ≡ Some row → ClosedBy before exit count first next stripe row
 closed_by before exit count first next reads_only is closed trees stripe row has = let clash : None ≡ Some row = has in absurd cc
 closed_by before exit count first next (syncs failed run) is closed trees stripe row has = record { run = run; is_sync = is; stands = closed; trees = trees; has_row = has }
 closed_by before exit count first next (fixes failed run) is closed trees stripe row has = let clash : None ≡ Some row = has in absurd cc
@@ -163,8 +164,8 @@ no_block table starts first d stripe reading is_of none = by (cell_in (column_at
     by (Some cell) is nothing = absurd cc
 
 module _ (finds : FindsCells) (one_table : OneTable) (saves_valid : SavesValidTables) (places : ListedStandInPlace) (follow : BlocksFollow) (nothing : (a : ℕ) → product a 0 ≡ 0) (row_of : RowOfCells) (same_parity : SameParity)
-    (before : Entry) (exit : Exit) (did : Did) (count : ℕ) (first next : Standing) (over : BeginsOver first before) (origin : IsOrigin first) (is_did : IsDidOf before exit did)
-    (closed : HasClosed did count first.files next.files) (leaves : LeavesTrees did before exit first.trees next.trees) (last_is : next.last ≡ synced_by did count first.last) (as_many : next.copies ≡ first.copies)
+    (before : Entry) (exit : Exit) (did : Did) (count : ℕ) (first next : Standing) (over : BeginsOver first before) (origin : IsOrigin first) (is_did : (effect did).is_of before exit)
+    (closed : (effect did).has_closed count first.files next.files) (leaves : LeavesTrees (effect did).writes_files before exit first.trees next.trees) (last_is : next.last ≡ synced_by did count first.last) (as_many : next.copies ≡ first.copies)
     (trees : List Tree) (taken : OnlyTakenAway next.trees trees) (fix_before : Entry) (fix_exit : Exit) (begins : BeginsOver (record next { trees = trees }) fix_before)
     (sound : IsSoundStanding (record next { trees = trees })) (run : FixRun) (is : IsFixOf fix_before fix_exit run) (intact : LevelsAreIntact fix_before run) where
   abbrev files : Files
@@ -185,10 +186,10 @@ module _ (finds : FindsCells) (one_table : OneTable) (saves_valid : SavesValidTa
   unchanged : (stripe r : ℕ) → next.last.is_changed stripe r ≡ false
   unchanged stripe r =
       ap (λ (last : LastSynced). last.is_changed stripe r) last_is
-      ∙ unchanged_without (levels_closed did) (rows_closed did count) first.last.is_changed stripe r (ap (λ (last : LastSynced). last.is_changed stripe r) origin.nothing)
+      ∙ unchanged_without (effect did).levels_closed ((effect did).rows_closed count) first.last.is_changed stripe r (ap (λ (last : LastSynced). last.is_changed stripe r) origin.nothing)
 
   -- the snapshot has the row that was closed, or none
-  snapshot_by : (stripe : ℕ) (found : Option Row) → rows_closed did count stripe ≡ found → next.last.snapshot stripe ≡ in_front found []
+  snapshot_by : (stripe : ℕ) (found : Option Row) → (effect did).rows_closed count stripe ≡ found → next.last.snapshot stripe ≡ in_front found []
   snapshot_by stripe found has =
       ap (λ (last : LastSynced). last.snapshot stripe) last_is
       ∙ ap₂ (λ (it : Option Row) (rows : List Row). in_front it rows) has (ap (λ (last : LastSynced). last.snapshot stripe) origin.nothing)
@@ -291,7 +292,7 @@ module _ (finds : FindsCells) (one_table : OneTable) (saves_valid : SavesValidTa
           nothing follow
 
     -- by the row that was closed, if one was
-    genuine_by : (found : Option Row) → rows_closed did count facts.stripe ≡ found → IsGenuine run.plan (last_row next.last.snapshot facts.stripe) facts
+    genuine_by : (found : Option Row) → (effect did).rows_closed count facts.stripe ≡ found → IsGenuine run.plan (last_row next.last.snapshot facts.stripe) facts
     genuine_by None has = absurd (no_row (snapshot_by facts.stripe None has))
     genuine_by (Some row) has = genuine row (closed_by before exit count first next did is_did closed leaves facts.stripe row has) (ap newest (snapshot_by facts.stripe (Some row) has))
 
@@ -299,7 +300,7 @@ module _ (finds : FindsCells) (one_table : OneTable) (saves_valid : SavesValidTa
   all_genuine k other within searched =
       let facts : StripeFacts = get_or (facts_of run.stripes) k other in
       genuine_by facts (is.over.finds.are k other within) (All-contains_itself (facts_of run.stripes) k other within) searched (is.over.finds.cells k other within) (is.over.no_gifts k other within)
-      (rows_closed did count facts.stripe) refl
+      ((effect did).rows_closed count facts.stripe) refl
 
 -- ---- a fix of what is left
 
@@ -318,7 +319,7 @@ module _ {O F V W : Type 0} (opener_view : O → OpenerView) (folder_view : F �
   pub no_chance_met : HoldsAlways → LevelsAreRead → FindsCells → OneTable → SavesValidTables → ListedStandInPlace → BlocksFollow → ((a : ℕ) → product a 0 ≡ 0) → RowOfCells → SameParity
       → (sync fix : RunOf O F V W) (first next : Standing) (trees : List Tree) (did : Did) → IsOrigin first → GoesOver opener_view folder_view vault_view sink_view sync first next → OnlyTakenAway next.trees trees
       → BeginsOver (record next { trees = trees }) (before_of opener_view folder_view vault_view sink_view fix)
-      → IsDidOf (before_of opener_view folder_view vault_view sink_view fix) (after_of opener_view folder_view vault_view sink_view fix) did → MeetsNoChance did next.last.snapshot
+      → (effect did).is_of (before_of opener_view folder_view vault_view sink_view fix) (after_of opener_view folder_view vault_view sink_view fix) → (effect did).meets_no_chance next.last.snapshot
   no_chance_met holds levels finds one_table saves_valid places follow nothing row_of same_parity sync fix first next trees reads_only origin goes taken begins is = tt
   no_chance_met holds levels finds one_table saves_valid places follow nothing row_of same_parity sync fix first next trees (syncs failed _) origin goes taken begins is = tt
   no_chance_met holds levels finds one_table saves_valid places follow nothing row_of same_parity sync fix first next trees (scrubs failed _) origin goes taken begins is = tt

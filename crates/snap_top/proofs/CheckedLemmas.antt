@@ -39,8 +39,9 @@ use Rattle.snap_report.specs.declared.pages.Lines.{Lines}
 use Rattle.snap_report.proofs.ReportLemmas.{all_given_nothing}
 use Rattle.snap_top.specs.Checking.{CheckEnds, CheckRefuses, ChecksBy, checks_as}
 use Rattle.snap_top.specs.Does.{DoesCommand, IsDone}
-use Rattle.snap_top.specs.Task.{Task, Did, reads_only, Left}
-use Rattle.snap_top.specs.Views.{World, world_view, world_of, view_of, outside_of, AllReadOnly}
+use Rattle.snap_top.specs.Task.{Task, Left, outside_of}
+use Rattle.snap_top.specs.Did.{Did, reads_only}
+use Rattle.snap_top.specs.Views.{World, world_view, world_of, view_of, AllReadOnly}
 use Rattle.snap_top.proofs.DoneLemmas.{by_output, nothing_more}
 use Rattle.snap_top.proofs.FolderLemmas.{all_listed, column_reads_only, ran_out, failed_at}
 use Rattle.snap_top.proofs.SyncLemmas.{changes_of, printed_lines, listing_failed}

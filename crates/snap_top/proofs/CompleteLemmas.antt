@@ -40,7 +40,8 @@ use Rattle.snap_report.specs.declared.answer.Answer.TheVariants.{Clean, Found, O
 use Rattle.snap_report.specs.declared.answer.RunFault.TheVariants.{Folder, Vault, Memory}
 use Rattle.snap_report.specs.declared.events.Event.{Event}
 use Rattle.snap_top.specs.Array.{Matches, DiffersIn}
-use Rattle.snap_top.specs.Complete.{BreaksVault, BreaksFolder, HasContentOrNone, MayBegin, AreHeld, IsSmooth, held_vault, left_vault}
+use Rattle.snap_top.specs.Complete.{HasContentOrNone, MayBegin, AreHeld, IsSmooth}
+use Rattle.snap_top.specs.Unbroken.{BreaksFolder, BreaksVault, held_vault, left_vault}
 use Rattle.snap_exercise.specs.Exercise.{is_well}
 use Rattle.snap_top.specs.Does.{DoesCommand, PrintsOrStays}
 use Rattle.snap_top.specs.Dup.{dup_text}
@@ -49,11 +50,15 @@ use Rattle.array_setup.specs.declared.ways.SyncWay.{SyncWay}
 use Rattle.snap_scrub.specs.Marks.{scrubbed}
 use Rattle.snap_top.specs.Scrubbing.{ScrubBreaks, ScrubsBy}
 use Rattle.snap_top.specs.Syncing.{SyncsBy, SyncBreaks, SyncRefuses, answer_of}
-use Rattle.snap_top.specs.Task.{Task, Did, Left}
+use Rattle.snap_top.specs.Task.{Task, Left}
+use Rattle.snap_top.specs.Did.{Did}
 use Rattle.snap_top.specs.End.{status_of, ending_status, refusal_status, words_status, config_status, open_status}
 use Rattle.snap_top.specs.Known.{unknown_in}
-use Rattle.snap_top.specs.Opening.{SaysNot, asked_by, IsConfigured, IsWordsFault, is_failure, IsUnknown}
-use Rattle.snap_top.specs.Run.{Entry, Exit, Goes, IsRun, IsRefused, Ran, IsAnswered, ReadsCopies, LoadsFrom, BeginsWith}
+use Rattle.snap_top.specs.Opening.{SaysNot, IsWordsFault, is_failure, IsUnknown}
+use Rattle.snap_top.specs.Asked.{asked_by, IsConfigured}
+use Rattle.snap_top.specs.Run.{Goes, IsRun, IsRefused, Ran, IsAnswered}
+use Rattle.snap_top.specs.Entry.{Entry, Exit}
+use Rattle.snap_top.specs.Loading.{BeginsWith, LoadsFrom, ReadsCopies}
 use Rattle.snap_top.specs.Views.{World, world_of, view_of, folder_at}
 use Rattle.snap_top.proofs.RefusalLemmas.{done_is_no_refusal, check_not_refused, fix_not_refused, printing_not_refused, scrub_not_refused}
 use Rattle.snap_top.proofs.RunLemmas.{any_later}

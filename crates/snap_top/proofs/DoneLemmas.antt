@@ -22,8 +22,10 @@ use Rattle.snap_report.proofs.ReportLemmas.{all_given_nothing}
 use Rattle.snap_top.specs.Does.{PrintsAlone, StaysIdle, DoesCommand, IsDone}
 use Rattle.snap_top.specs.Dup.{ListsPairs, dup_text}
 use Rattle.snap_top.specs.Exercising.{RanOut}
-use Rattle.snap_top.specs.Task.{Task, Left, reads_only, stands_after, Prints}
-use Rattle.snap_top.specs.Views.{world_view, world_of, outside_of, view_of}
+use Rattle.snap_top.specs.Task.{Task, Left, Prints, outside_of}
+use Rattle.snap_top.specs.Effect.{effect}
+use Rattle.snap_top.specs.Did.{reads_only}
+use Rattle.snap_top.specs.Views.{world_view, world_of, view_of}
 use Rattle.snap_top.proofs.ViewsLemmas.{all_read_nothing, sink_stays}
 
 -- the answer of an engine that is done has its cause
@@ -36,7 +38,7 @@ by_output counted true told old new cause = cause refl
 by_output counted false told old new cause = by_count counted (counted == 0) refl told old new
 
 -- a run that only read leaves nothing besides
-pub nothing_more : (files : Files) (v : VaultView) → Holds (stands_after reads_only files) v
+pub nothing_more : (files : Files) (v : VaultView) → Holds ((effect reads_only).stands_after files) v
 nothing_more files v = record { reads = λ told. tt; leaves = λ told left may. tt }
 
 module _ {R : Type 0} (standing : R → ReportView) (stands : R → List Event → Type 0) where

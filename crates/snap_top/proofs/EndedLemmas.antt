@@ -19,13 +19,17 @@ use Rattle.snap_report.specs.declared.answer.Answer.{Answer}
 use Rattle.snap_report.specs.declared.answer.Answer.TheVariants as answers
 use Rattle.snap_report.specs.declared.answer.RunFault.TheVariants as runs
 use Rattle.snap_report.specs.declared.events.Event.{Event}
-use Rattle.snap_top.specs.Complete.{BreaksFolder, BreaksVault, NothingBroke, held_vault, left_vault}
+use Rattle.snap_top.specs.Unbroken.{BreaksFolder, BreaksVault, held_vault, left_vault, NothingBroke}
 use Rattle.snap_top.specs.End.{config_status, ending_status, refusal_status, status_of, words_status}
-use Rattle.snap_top.specs.Ended.{ByFaults, ByRun, ByStatus, IsEndStatus, WentToItsEnd, has_ended, has_failed_output}
-use Rattle.snap_top.specs.Run.{Entry, Exit, IsAnswered, IsRefused, IsRun, Ran}
-use Rattle.snap_top.specs.Opening.{asked_by}
-use Rattle.snap_top.specs.Task.{Did, Left, WorksOnArray, reads_only}
-use Rattle.snap_top.specs.Views.{folder_at, outside_of, view_of, world_of}
+use Rattle.snap_top.specs.Ended.{ByFaults, ByRun, ByStatus, WentToItsEnd, has_failed_output}
+use Rattle.snap_top.specs.Effect.{effect}
+use Rattle.snap_top.specs.Output.{IsEndStatus}
+use Rattle.snap_top.specs.Run.{IsAnswered, IsRefused, IsRun, Ran}
+use Rattle.snap_top.specs.Entry.{Entry, Exit}
+use Rattle.snap_top.specs.Asked.{asked_by, WorksOnArray}
+use Rattle.snap_top.specs.Task.{Left, outside_of}
+use Rattle.snap_top.specs.Did.{Did, reads_only}
+use Rattle.snap_top.specs.Views.{folder_at, view_of, world_of}
 use Rattle.snap_top.specs.declared.end.End.{End}
 use Rattle.snap_top.specs.declared.end.End.TheVariants.{Exercised, Refused, Worked}
 use Rattle.snap_top.specs.declared.end.Ending.{Ending}
@@ -51,7 +55,7 @@ pub record GoesToItsEnd (before : Entry) (exit : Exit) (status : ℕ) : Type 0 w
   pub told : List Event
   pub ran : IsRun before exit setup (Answered answer named) told
   pub status_is : status ≡ answer_status answer
-  pub how : IsDoneAnswer answer ⊎ (has_ended ran.did ≡ true)
+  pub how : IsDoneAnswer answer ⊎ ((effect ran.did).has_ended ≡ true)
 
 -- ---- by the status alone
 
@@ -199,11 +203,11 @@ done_end before exit end told status tells is ran (inr well) = done_well before 
 
 -- ---- by what it did, or by its answer
 
-pub only_read : (did : Did) → did ≡ reads_only → has_ended did ≡ true → ⊥
-only_read did is ended = let clash : false ≡ true = ap has_ended (sym is) ∙ ended in cc
+pub only_read : (did : Did) → did ≡ reads_only → (effect did).has_ended ≡ true → ⊥
+only_read did is ended = let clash : false ≡ true = ap (λ (did : Did). (effect did).has_ended) (sym is) ∙ ended in cc
 
 -- what did not go on to a command shows no end
-shows_no_end : (did : Did) → did ≡ reads_only → (has_ended did ≡ true) ⊎ (false ≡ true) → ⊥
+shows_no_end : (did : Did) → did ≡ reads_only → ((effect did).has_ended ≡ true) ⊎ (false ≡ true) → ⊥
 shows_no_end did is (inl ended) = only_read did is ended
 shows_no_end did is (inr failed) = let clash : false ≡ true = failed in cc
 
@@ -220,7 +224,7 @@ done_by_output (answers.Broken _) named failed = absurd (let clash : false ≡ t
 
 by_run : (before : Entry) (exit : Exit) (status : ℕ) (setup : SetupValue) (ending : Ending) (told : List Event)
     (ran : IsRun before exit setup ending told) → status ≡ ending_status ending
-    → (has_ended ran.did ≡ true) ⊎ (has_failed_output ending ≡ true) → GoesToItsEnd before exit status
+    → ((effect ran.did).has_ended ≡ true) ⊎ (has_failed_output ending ≡ true) → GoesToItsEnd before exit status
 by_run before exit status setup (NotLoaded fault) told ran is ended = absurd (shows_no_end ran.did ran.goes.0.1 ended)
 by_run before exit status setup NoTable told ran is ended = absurd (shows_no_end ran.did ran.goes.0.1 ended)
 by_run before exit status setup (OtherArray difference content) told ran is ended =

@@ -11,13 +11,14 @@ use Rattle.snap_report.specs.declared.events.Event.{Event}
 use Rattle.snap_sync.specs.Part.{SyncRun}
 use Rattle.snap_top.specs.Does.{DoesCommand}
 use Rattle.snap_top.specs.End.{ending_status}
-use Rattle.snap_top.specs.Ended.{has_ended}
+use Rattle.snap_top.specs.Effect.{effect}
 use Rattle.snap_top.specs.Fix.{FixRun}
-use Rattle.snap_top.specs.Moment.{EndsSound}
-use Rattle.snap_top.specs.Run.{Entry, Exit, IsAnswered, IsRun}
+use Rattle.snap_top.specs.Run.{IsAnswered, IsRun}
+use Rattle.snap_top.specs.Entry.{Entry, Exit}
 use Rattle.snap_top.specs.Scrub.{ScrubRun}
 use Rattle.snap_top.specs.Syncing.{SyncEnds, SyncsBy}
-use Rattle.snap_top.specs.Task.{Did, Left, fixes, scrubs, syncs}
+use Rattle.snap_top.specs.Task.{Left}
+use Rattle.snap_top.specs.Did.{Did, fixes, scrubs, syncs}
 use Rattle.snap_top.specs.Views.{world_of}
 use Rattle.snap_top.specs.declared.end.Ending.{Ending}
 use Rattle.snap_top.specs.declared.end.Ending.TheVariants.{NotLoaded, NoTable, OtherArray, Answered}
@@ -29,7 +30,7 @@ use Rattle.snap_top.proofs.SyncedLemmas.{MomentsAreSound, OneTable}
 module _ (keeps : KeepsItsStripes) (one_table : OneTable) (moments : MomentsAreSound) (finds : FindsWhatIsPending) (before : Entry) (exit : Exit) (tells : IsTrue before.opener.tells) (tells_vault : IsTrue before.opener.vault.tells)
     (in_time : before.moment < 2 ^ 64) (status : ℕ) where
   abbrev Sound : Did → Type 0
-  Sound did = EndsSound did before exit status
+  Sound did = (effect did).sound_at_end before exit status
 
   module _ (setup : SetupValue) (answer : Answer) (named : Option TableValue) (told : List Event) (ran : IsRun before exit setup (Answered answer named) told) (is : status ≡ answer_status answer) where
     abbrev left : Left
@@ -45,7 +46,7 @@ module _ (keeps : KeepsItsStripes) (one_table : OneTable) (moments : MomentsAreS
         = subst (λ (it : Command). DoesCommand it ran.task one.table one.start (world_of exit.after) left ran.did) command one.does in
         let ends : SyncEnds ran.task way one.table one.start (world_of exit.after) left ran.did
         = ends_by_answer answer ran.task way one.table one.start (world_of exit.after) left ran.did
-        (done_by_did answer ran.task way one.table one.start (world_of exit.after) left ran.did does (ap has_ended did_is)) does in
+        (done_by_did answer ran.task way one.table one.start (world_of exit.after) left ran.did does (ap (λ (did : Did). (effect did).has_ended) did_is)) does in
         let sync : HasEndedSync before exit status = record {
           setup = setup;
           answer = answer;

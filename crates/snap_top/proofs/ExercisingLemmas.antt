@@ -20,10 +20,11 @@ use Rattle.snap_report.specs.declared.events.Event.{Event}
 use Rattle.snap_top.specs.Complete.{SmoothRunsAreDone}
 use Rattle.snap_top.specs.End.{refusal_status, status_of, words_status}
 use Rattle.snap_top.specs.Exercising.{AsksForExercise, Exercises}
-use Rattle.snap_top.specs.Opening.{Refuses, asked_by}
-use Rattle.snap_top.specs.Run.{Entry, Exit, Ran, RanWith, entry_by, entry_seen, exit_by, exit_seen, setup_of}
+use Rattle.snap_top.specs.Opening.{Refuses}
+use Rattle.snap_top.specs.Asked.{asked_by, WorksOnArray}
+use Rattle.snap_top.specs.Run.{Ran, RanWith, setup_of}
+use Rattle.snap_top.specs.Entry.{Entry, entry_by, entry_seen, Exit, exit_by, exit_seen}
 use Rattle.snap_top.specs.Step.{ChangesFiles}
-use Rattle.snap_top.specs.Task.{WorksOnArray}
 use Rattle.snap_top.specs.declared.end.End.{End}
 use Rattle.snap_top.specs.declared.end.End.TheVariants.{Exercised, Refused, Worked}
 use Rattle.snap_top.specs.declared.end.Refusal.{Refusal}

@@ -46,7 +46,8 @@ use Rattle.snap_top.specs.Fix.{FixRun}
 use Rattle.snap_top.specs.FixedAlike.{KeepStampsAlike}
 use Rattle.snap_top.specs.Fixing.{FixBroke}
 use Rattle.snap_top.specs.Restoring.{EndsFixed, events_in}
-use Rattle.snap_top.specs.Run.{Entry, Exit, IsAnswered}
+use Rattle.snap_top.specs.Run.{IsAnswered}
+use Rattle.snap_top.specs.Entry.{Entry, Exit}
 use Rattle.snap_top.specs.Views.{view_of, world_of}
 use Rattle.snap_top.proofs.AlikeLemmas.{one_plan}
 use Rattle.snap_top.proofs.FinishedByLemmas.{all_news_same}

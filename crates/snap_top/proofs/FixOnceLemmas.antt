@@ -24,14 +24,16 @@ use Rattle.stripe_examiner.specs.Counts.{at_most}
 use Rattle.stripe_examiner.specs.Facts.{StripeFacts}
 use Rattle.stripe_examiner.specs.Looking.{unread_cells, unread_in}
 use Rattle.stripe_reader.specs.Columns.{folder_at}
-use Rattle.snap_top.specs.Alike.{HoldAlike, NothingRose, SeenAlike, seen_by}
+use Rattle.snap_top.specs.Alike.{HoldAlike, SeenAlike, seen_by}
+use Rattle.snap_top.specs.Unbroken.{NothingRose}
 use Rattle.snap_top.specs.BrokeOff.{BrokeOff, FixBrokeOff, PrintsFront, ReadsRight, RoseOnceBy, answered, left_of, seen_so_far}
 use Rattle.snap_top.specs.Fix.{FixRun}
 use Rattle.snap_top.specs.FixedAlike.{KeepStampsAlike}
 use Rattle.snap_top.specs.Fixing.{FixBroke}
 use Rattle.snap_top.specs.LeftAlike.{AskSame}
 use Rattle.snap_top.specs.Restoring.{EndsFixed, events_in}
-use Rattle.snap_top.specs.Run.{Entry, Exit, IsAnswered}
+use Rattle.snap_top.specs.Run.{IsAnswered}
+use Rattle.snap_top.specs.Entry.{Entry, Exit}
 use Rattle.snap_top.specs.Views.{view_of, world_of}
 use Rattle.snap_top.proofs.AskedLemmas.{command_asked}
 use Rattle.snap_top.proofs.BrokeOffLemmas.{LeftUntold, begun, configured, does_as, fix_broke, folders_are, given_faults, printed_nothing}

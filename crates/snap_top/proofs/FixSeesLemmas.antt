@@ -14,7 +14,8 @@ use Rattle.stripe_examiner.specs.Known.{AreFacts}
 use Rattle.stripe_examiner.specs.Looking.{facts_at, numbers_of}
 use Rattle.repair_scope.specs.Plan.{FixPlan, names_of}
 use Rattle.repair_scope.specs.declared.scope.Mode.TheVariants as modes
-use Rattle.snap_top.specs.Alike.{BlocksAlike, HoldAlike, NothingRose, SeenAlike, seen_by}
+use Rattle.snap_top.specs.Alike.{BlocksAlike, HoldAlike, SeenAlike, seen_by}
+use Rattle.snap_top.specs.Unbroken.{NothingRose}
 use Rattle.snap_top.specs.BrokeOff.{BrokeOff, FixBrokeOff, PrintsFront, ReadsRight, answered, left_of, seen_so_far}
 use Rattle.snap_top.proofs.CameLemmas.{first_are, first_at, first_gifts, numbers_first}
 use Rattle.snap_top.proofs.FixFrontLemmas.{fix_seen_front}
@@ -22,9 +23,10 @@ use Rattle.snap_top.specs.Fix.{FixRun}
 use Rattle.snap_top.specs.FixedAlike.{KeepStampsAlike}
 use Rattle.snap_top.specs.Fixing.{FixBroke}
 use Rattle.snap_top.specs.LeftAlike.{AskSame}
-use Rattle.snap_top.specs.Opening.{IsConfigured}
+use Rattle.snap_top.specs.Asked.{IsConfigured}
 use Rattle.snap_top.specs.Restoring.{EndsFixed, events_in}
-use Rattle.snap_top.specs.Run.{Entry, Exit, IsAnswered}
+use Rattle.snap_top.specs.Run.{IsAnswered}
+use Rattle.snap_top.specs.Entry.{Entry, Exit}
 use Rattle.snap_top.specs.Sync.{BeginsFrom}
 use Rattle.snap_top.specs.Views.{view_of, world_of}
 use Rattle.snap_top.specs.declared.end.Ending.TheVariants.{Answered}

@@ -59,8 +59,9 @@ use Rattle.snap_top.specs.Does.{DoesCommand, IsDone}
 use Rattle.snap_top.specs.Fix.{AllFixed, FixRun, IsRunCall}
 use Rattle.snap_top.specs.Fixing.{FixBroke, FixEnds, FixesBy, fix_of}
 use Rattle.snap_top.specs.Syncing.{IsOpened}
-use Rattle.snap_top.specs.Task.{Did, Left, Task, fixes, reads_only}
-use Rattle.snap_top.specs.Views.{World, outside_of, world_of, world_view}
+use Rattle.snap_top.specs.Task.{Left, Task, outside_of}
+use Rattle.snap_top.specs.Did.{Did, fixes, reads_only}
+use Rattle.snap_top.specs.Views.{World, world_of, world_view}
 use Rattle.snap_top.proofs.CheckedLemmas.{none_given, not_begun_done, refusal_of}
 use Rattle.snap_top.proofs.DoneLemmas.{by_output}
 use Rattle.snap_top.proofs.FixStatesLemmas.{broken_of, finds_of, looked_of, mends_of, off_of, rose_of, vault_of}

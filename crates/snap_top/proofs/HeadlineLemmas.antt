@@ -12,22 +12,25 @@ use Rattle.snap_config.specs.declared.options.Options.{Options}
 use Rattle.snap_sync.specs.Images.{AtWork, Opening, StandsBy, rows_after}
 use Rattle.snap_sync.specs.Part.{AllTell, tree_at, trees_of, SyncRun, IsToldRun}
 use Rattle.stripe_reader.specs.Columns.{folder_at}
-use Rattle.snap_top.specs.Ended.{has_ended}
+use Rattle.snap_top.specs.Effect.{effect}
 use Rattle.snap_top.specs.Headline.{ArrivesAtItsEnd, ChecksName, FixesAreResumed, FixesSpare, GoesOn, LeavesCopies, Headline, IsQuiet, IsSoundStanding, SyncsLast, TreesStay, UnopenedStays}
-use Rattle.snap_top.specs.History.{AreSoundBy, synced_by, LastSynced}
+use Rattle.snap_top.specs.LastSynced.{AreSoundBy, LastSynced, synced_by}
 use Rattle.snap_top.specs.Fix.{FixRun, MayStandFixed}
 use Rattle.snap_top.specs.NextFix.{IsNextFix}
 use Rattle.snap_top.specs.Undamaged.{HasEnough}
-use Rattle.snap_top.specs.Moment.{AreOfRun, IsFixOf, IsDidOf, IsSoundAlways, EndsInPart}
-use Rattle.snap_top.specs.Opening.{asked_by}
-use Rattle.snap_top.specs.Step.{ChangesFiles, EndsBy, LeavesEachTree}
+use Rattle.snap_top.specs.Moment.{IsSoundAlways}
+use Rattle.snap_top.specs.InPart.{EndsInPart}
+use Rattle.snap_top.specs.Began.{IsFixOf}
+use Rattle.snap_top.specs.Asked.{asked_by}
+use Rattle.snap_top.specs.Step.{ChangesFiles}
 use Rattle.snap_top.specs.Restoring.{EndsFixed}
-use Rattle.snap_top.specs.Resumed.{RunOf}
-use Rattle.snap_top.specs.Run.{Entry, Exit}
-use Rattle.snap_top.specs.Spared.{SparesBy, SparesCells}
+use Rattle.snap_top.specs.RunOf.{RunOf}
+use Rattle.snap_top.specs.Entry.{Entry, Exit}
+use Rattle.snap_top.specs.Spared.{SparesCells}
 use Rattle.snap_top.specs.Stopping.{FindsNoLess, FolderStandsIn, SparesFiles, stop_of}
-use Rattle.snap_top.specs.Standing.{BeginsOver, GoesOver, HasClosed, IsHistory, IsOrigin, LeavesTrees, MeetsNoChance, Stage, Standing, after_of, before_of}
-use Rattle.snap_top.specs.Task.{Did, fixes, folders_after, has_fixed, may_stand, reads_only, scrubs, syncs, end_table}
+use Rattle.snap_top.specs.Standing.{BeginsOver, GoesOver, IsHistory, IsOrigin, LeavesTrees, Stage, Standing, after_of, before_of}
+use Rattle.snap_top.specs.Did.{Did, fixes, reads_only, scrubs, syncs}
+use Rattle.snap_top.specs.Sync.{end_table}
 use Rattle.snap_top.specs.Views.{AllReadOnly}
 use Rattle.snap_top.proofs.CompleteLemmas.{same_ok}
 use Rattle.snap_top.proofs.EndedLemmas.{only_read}
@@ -83,8 +86,8 @@ module _ {O F V W : Type 0} (opener_view : O → OpenerView) (folder_view : F �
       let always : IsSoundAlways (begun run) (ended run) run.status = goes.step.always in
       let read : always.did ≡ reads_only = ⊎_elim (λ refused. goes.step.refused refused) (λ asked. always.reads asked.0 asked.1 asked.2) why in
       let files : next.files ≡ standing.files
-      = subst (λ (did : Did). may_stand did (begun run).opener.vault.files next.files) read (always.moments next.files goes.files) ∙ goes.over.files in
-      let trees : next.trees ≡ standing.trees = subst (λ (did : Did). LeavesTrees did (begun run) (ended run) standing.trees next.trees) read goes.trees in
+      = subst (λ (did : Did). (effect did).may_stand (begun run).opener.vault.files next.files) read (always.moments next.files goes.files) ∙ goes.over.files in
+      let trees : next.trees ≡ standing.trees = subst (λ (did : Did). LeavesTrees (effect did).writes_files (begun run) (ended run) standing.trees next.trees) read goes.trees in
       let last : next.last ≡ standing.last = goes.last ∙ ap (λ (did : Did). synced_by did goes.count standing.last) read in
       goes.array
       ∙ ap (λ (its : List Tree). (let made : Standing = record standing { trees = its; files = next.files; last = next.last } in made)) trees
@@ -94,8 +97,8 @@ module _ {O F V W : Type 0} (opener_view : O → OpenerView) (folder_view : F �
   -- ---- a sync that went to its end
 
   -- what a run leaves that was asked for a sync and did not break off
-  synced_by_did : (before : Entry) (exit : Exit) (status : ℕ) (asked : Options) (way : SyncWay) → asked_by before.texts ≡ Ok asked → asked.command ≡ commands.Sync way → (did : Did) → IsDidOf before exit did
-      → has_ended did ≡ true → EndsBy did before exit status → AllTell before.opener.folders → (ends : EndsInPart before exit status) × (did ≡ syncs false ends.run)
+  synced_by_did : (before : Entry) (exit : Exit) (status : ℕ) (asked : Options) (way : SyncWay) → asked_by before.texts ≡ Ok asked → asked.command ≡ commands.Sync way → (did : Did) → (effect did).is_of before exit
+      → (effect did).has_ended ≡ true → (effect did).ends before exit status → AllTell before.opener.folders → (ends : EndsInPart before exit status) × (did ≡ syncs false ends.run)
   synced_by_did before exit status asked way words command reads_only is done ends told = absurd (only_read reads_only refl done)
   synced_by_did before exit status asked way words command (syncs true sync) is done ends told = absurd cc
   synced_by_did before exit status asked way words command (syncs false sync) is done ends told = ((ends told).0, ap (λ (run : SyncRun). syncs false run) (sym (ends told).1))
@@ -115,7 +118,7 @@ module _ {O F V W : Type 0} (opener_view : O → OpenerView) (folder_view : F �
       let over = goes.over in
       let step = goes.step in
       let did : Did = step.always.did in
-      let done : has_ended did ≡ true = step.done well.asked well.words (subst ChangesFiles (sym well.command_is) tt) well.well in
+      let done : (effect did).has_ended ≡ true = step.done well.asked well.words (subst ChangesFiles (sym well.command_is) tt) well.well in
       let both = synced_by_did before exit run.status well.asked well.way well.words well.command_is did step.always.is_did done (step.at_end done) over.tells.tells_folders in
       let ends : EndsInPart before exit run.status = both.0 in
       let its : SyncRun = ends.run in
@@ -125,7 +128,7 @@ module _ {O F V W : Type 0} (opener_view : O → OpenerView) (folder_view : F �
       let told : IsToldRun its = record { told = subst AllTell (sym is_sync.folders_are) over.tells.tells_folders; of_lists = is_sync.over.listed } in
       let saved : HasSaved copies (spelling (end_table its)) next.files = stands_then (HasSaved copies (spelling (end_table its))) exit next.files ends.tells ends.saved stand in
       let closed : StandsBy its.plan its.readings goes.count before.opener.vault.files next.files
-      = subst (λ (files : Files). StandsBy its.plan its.readings goes.count files next.files) (sym over.files) (subst (λ (d : Did). HasClosed d goes.count standing.files next.files) both.1 goes.closed) in
+      = subst (λ (files : Files). StandsBy its.plan its.readings goes.count files next.files) (sym over.files) (subst (λ (d : Did). (effect d).has_closed goes.count standing.files next.files) both.1 goes.closed) in
       let contents : 0 < length its.setup.contents = some_content is_sync.configured.says.bytes is_sync.configured.asked.log its.setup is_sync.configured.says.says in
       let some : 0 < copies = omega (arith, contents, is_sync.copies_are) in
       let rows : rows_after its.plan its.readings goes.count ≡ rows_after its.plan its.readings n
@@ -154,17 +157,18 @@ module _ {O F V W : Type 0} (opener_view : O → OpenerView) (folder_view : F �
   copies_over : (standing : Standing) → LeavesCopies opener_view folder_view vault_view sink_view standing
   copies_over standing run next goes =
       let did : Did = goes.step.always.did in
-      subst (λ (n : ℕ). AreOfRun did n standing.files next.files) goes.over.copies
-      (subst (λ (files : Files). AreOfRun did (copies_of (begun run).opener.vault) files next.files) goes.over.files (goes.step.always.copies next.files goes.files))
+      subst (λ (n : ℕ). (effect did).copies_are n standing.files next.files) goes.over.copies
+      (subst (λ (files : Files). (effect did).copies_are (copies_of (begun run).opener.vault) files next.files) goes.over.files (goes.step.always.copies next.files goes.files))
 
   spares_over : SaysOfStops → (standing : Standing) → FixesSpare opener_view folder_view vault_view sink_view standing
   spares_over says standing run next goes = by goes.step.always.did goes.step.always.is_did goes.trees
-      (subst (λ (files : Files). may_stand goes.step.always.did files next.files) goes.over.files (goes.step.always.moments next.files goes.files))
+      (subst (λ (files : Files). (effect goes.step.always.did).may_stand files next.files) goes.over.files (goes.step.always.moments next.files goes.files))
     where
       held_tree : (d : ℕ) → (folder_held (begun run).opener d).tree ≡ tree_at standing.trees d
       held_tree d = sym (tree_of_folder (begun run).opener.folders d) ∙ ap (λ (trees : List Tree). tree_at trees d) goes.over.trees
 
-      by : (did : Did) → IsDidOf (begun run) (ended run) did → LeavesTrees did (begun run) (ended run) standing.trees next.trees → may_stand did standing.files next.files → SparesBy did standing next
+      by : (did : Did) → (effect did).is_of (begun run) (ended run) → LeavesTrees (effect did).writes_files (begun run) (ended run) standing.trees next.trees → (effect did).may_stand standing.files next.files
+          → (effect did).spares standing.trees next.trees standing.files next.files
       by reads_only is leaves moment = tt
       by (syncs failed sync) is leaves moment = tt
       by (scrubs failed scrub) is leaves moment = tt
@@ -187,11 +191,11 @@ module _ {O F V W : Type 0} (opener_view : O → OpenerView) (folder_view : F �
       let exit : Exit = ended run in
       let before_then : Entry = begun again in
       let exit_then : Exit = ended again in
-      let is : IsFixOf before exit fix = subst (IsDidOf before exit) did_is goes.step.always.is_did in
-      let is_then : IsFixOf before_then exit_then fix_again = subst (IsDidOf before_then exit_then) did_then step.always.is_did in
-      let leaves : LeavesTrees (fixes failed fix) before exit standing.trees next.trees = subst (λ (did : Did). LeavesTrees did before exit standing.trees next.trees) did_is goes.trees in
+      let is : IsFixOf before exit fix = subst (λ (did : Did). (effect did).is_of before exit) did_is goes.step.always.is_did in
+      let is_then : IsFixOf before_then exit_then fix_again = subst (λ (did : Did). (effect did).is_of before_then exit_then) did_then step.always.is_did in
+      let leaves : LeavesTrees (effect (fixes failed fix)).writes_files before exit standing.trees next.trees = subst (λ (did : Did). LeavesTrees (effect did).writes_files before exit standing.trees next.trees) did_is goes.trees in
       let held : length before.opener.folders ≡ length standing.trees = sym (length-map before.opener.folders (λ (folder : FolderView). folder.tree)) ∙ ap length goes.over.trees in
-      let ends_by : EndsBy (fixes false fix_again) before_then exit_then again.status = subst (λ (did : Did). EndsBy did before_then exit_then again.status) did_then (step.at_end (ap has_ended did_then)) in
+      let ends_by : (effect (fixes false fix_again)).ends before_then exit_then again.status = subst (λ (did : Did). (effect did).ends before_then exit_then again.status) did_then (step.at_end (ap (λ (did : Did). (effect did).has_ended) did_then)) in
       let ends : (ends : EndsFixed before_then exit_then again.status) × (ends.run ≡ fix_again) = ends_by begins.tells.tells_folders in
       let over_left : IsNextFix before exit fix before_then exit_then ends.0.run = record {
         tells = goes.over.tells;
@@ -208,7 +212,7 @@ module _ {O F V W : Type 0} (opener_view : O → OpenerView) (folder_view : F �
       let are : AreSoundBy (copies_of before.opener.vault) before.opener.vault.files standing.last
       = subst (λ (k : ℕ). AreSoundBy k before.opener.vault.files standing.last) (sym goes.over.copies) (subst (λ (fs : Files). AreSoundBy standing.copies fs standing.last) (sym goes.over.files) sound.sound) in
       let left : MayStandFixed fix before.opener.vault.files before_then.opener.vault.files = subst (MayStandFixed fix before.opener.vault.files) (sym begins.files)
-      (subst (λ (did : Did). may_stand did before.opener.vault.files next.files) did_is (goes.step.always.moments next.files goes.files)) in
+      (subst (λ (did : Did). (effect did).may_stand before.opener.vault.files next.files) did_is (goes.step.always.moments next.files goes.files)) in
       record {
         enough = λ mended mended_again one one_then stripe enough.
             subst (λ (is_changed : ℕ → ℕ → Bool). HasEnough fix_again is_changed mended_again.facts) (sym changed)
@@ -216,14 +220,14 @@ module _ {O F V W : Type 0} (opener_view : O → OpenerView) (folder_view : F �
         restorable = λ mended mended_again is_intact is_intact_then one one_then stripe tells tells_then.
             restorable_again holds keeps (copies_of before.opener.vault) before.opener.vault fix standing.last.snapshot standing.last.is_changed goes.over.tells.tells_vault is.over
             (loaded_sound (copies_of before.opener.vault) fix.loaded before.opener.vault.files standing.last.snapshot standing.last.is_changed is.over.valid is.over.is_loaded are)
-            (subst (λ (did : Did). MeetsNoChance did standing.last.snapshot) did_is goes.genuine) mended one is_intact tells
+            (subst (λ (did : Did). (effect did).meets_no_chance standing.last.snapshot) did_is goes.genuine) mended one is_intact tells
             before_then exit_then fix_again is_then begins.tells.tells_vault loaded left mended_again one_then (no_less mended mended_again one one_then stripe) is_intact_then
             (subst (λ (snapshot : Closed). TellsIntactLevels fix_again.plan mended_again.facts (last_row snapshot mended_again.facts.stripe) is_intact_then) snapshot tells_then);
       }
 
   -- ---- what stands next
 
-  closed_then : (did : Did) (old new : Files) → may_stand did old new → (count : ℕ) × HasClosed did count old new
+  closed_then : (did : Did) (old new : Files) → (effect did).may_stand old new → (count : ℕ) × (effect did).has_closed count old new
   closed_then reads_only old new moment = (0, refl)
   closed_then (syncs failed run) old new (Opening saves) = (0, inl (refl, saves))
   closed_then (syncs failed run) old new (AtWork c k work) = (k, inr (c, work))
@@ -233,7 +237,7 @@ module _ {O F V W : Type 0} (opener_view : O → OpenerView) (folder_view : F �
   goes_on_over : (standing : Standing) → GoesOn opener_view folder_view vault_view sink_view standing
   goes_on_over standing run files trees over step stands leaves genuine =
       let always : IsSoundAlways (begun run) (ended run) run.status = step.always in
-      let closed = closed_then always.did standing.files files (subst (λ (fs : Files). may_stand always.did fs files) over.files (always.moments files stands)) in
+      let closed = closed_then always.did standing.files files (subst (λ (fs : Files). (effect always.did).may_stand fs files) over.files (always.moments files stands)) in
       let next : Standing = record {
         config = standing.config;
         trees = trees;
@@ -272,16 +276,8 @@ module _ {O F V W : Type 0} (opener_view : O → OpenerView) (folder_view : F �
   -- ---- trees at each moment of a run
 
   trees_over : (standing : Standing) → TreesStay opener_view folder_view vault_view sink_view standing
-  trees_over standing run d left over step has none at = by step.always.did none (step.stops has)
-    where
-      held : (folder_held (begun run).opener d).tree ≡ tree_at standing.trees d
-      held = sym (tree_of_folder (begun run).opener.folders d) ∙ ap (λ (trees : List Tree). tree_at trees d) over.trees
-
-      by : (did : Did) → has_fixed did ≡ false → LeavesEachTree did (begun run) (ended run) → left ≡ tree_at standing.trees d
-      by reads_only unfixed stays = stays d left at ∙ held
-      by (syncs failed sync) unfixed stays = stays d left at ∙ held
-      by (fixes failed fix) unfixed stays = absurd (let clash : true ≡ false = unfixed in cc)
-      by (scrubs failed scrub) unfixed stays = stays d left at ∙ held
+  trees_over standing run d left over step has none at =
+      step.stops has none d left at ∙ sym (tree_of_folder (begun run).opener.folders d) ∙ ap (λ (trees : List Tree). tree_at trees d) over.trees
 
   -- ---- a run that opened nothing
 
@@ -310,8 +306,8 @@ module _ {O F V W : Type 0} (opener_view : O → OpenerView) (folder_view : F �
   read_trees : (olds news : List FolderView) → AllTell olds → AllReadOnly olds news → trees_of news ≡ trees_of olds
   read_trees olds news told read = trees_same olds news read.count (λ d below. (read.each d below).tree (told d below))
 
-  leaves_trees : (standing : Standing) (run : RunOf O F V W) → BeginsOver standing (begun run) → (did : Did) → folders_after did (begun run).opener.folders (ended run).after.folders
-      → LeavesTrees did (begun run) (ended run) standing.trees (trees_of (ended run).after.folders)
+  leaves_trees : (standing : Standing) (run : RunOf O F V W) → BeginsOver standing (begun run) → (did : Did) → (effect did).folders_after (begun run).opener.folders (ended run).after.folders
+      → LeavesTrees (effect did).writes_files (begun run) (ended run) standing.trees (trees_of (ended run).after.folders)
   leaves_trees standing run over reads_only after = read_trees _ _ over.tells.tells_folders after ∙ over.trees
   leaves_trees standing run over (syncs failed sync) after = read_trees _ _ over.tells.tells_folders after ∙ over.trees
   leaves_trees standing run over (scrubs failed scrub) after = read_trees _ _ over.tells.tells_folders after ∙ over.trees

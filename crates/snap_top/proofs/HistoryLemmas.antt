@@ -1,5 +1,5 @@
 -- The copies stay sound over a history.
-use Rattle.std.proofs.Common.{⊎_elim, ℕ, zero, suc, ◌+◌, ◌*◌, ◌==◌, List, [], ◌∷◌, length, take, Bool, true, false, All, IfSome, Option, None, Some, if◌then◌else◌, refl, sym, ◌∙◌, subst, arith}
+use Rattle.std.proofs.Common.{◌≡◌, ⊎_elim, ℕ, zero, suc, ◌+◌, ◌*◌, ◌==◌, List, [], ◌∷◌, length, take, Bool, true, false, All, IfSome, Option, None, Some, if◌then◌else◌, refl, sym, ◌∙◌, subst, arith}
 use Rattle.std.proofs.lemmas.List.Elements.{All-cons, All-take}
 use Rattle.cauchy.specs.Recovery.{AreBytes}
 use Rattle.content_file.specs.Save.{HasSaved}
@@ -17,11 +17,16 @@ use Rattle.snap_sync.specs.Images.{rows_after}
 use Rattle.stripe_findings.specs.Reading.{StripeReading, is_verified, row_of}
 use Rattle.snap_sync.specs.Soundness.{AreSound, in_front}
 use Rattle.snap_sync.specs.Part.{SyncRun}
-use Rattle.snap_top.specs.History.{AreSoundBy, Changes, EndsSoundBy, IsChange, IsSoundSynced, IsHistory, IsOfBytes, LastSynced, Runs, StaysSound, Step, synced_by}
-use Rattle.snap_top.specs.Moment.{EndsSound, IsDidOf, IsSoundAlways, IsSoundAtEnd, IsSupposed, StandsAfter}
-use Rattle.snap_top.specs.Resumed.{end_of, entry_of}
-use Rattle.snap_top.specs.Run.{Entry, Exit}
-use Rattle.snap_top.specs.Task.{Did, end_table, fixes, reads_only, scrubs, syncs}
+use Rattle.snap_top.specs.History.{Changes, IsSoundSynced, IsHistory, Runs, StaysSound, Step}
+use Rattle.snap_top.specs.LastSynced.{AreSoundBy, IsChange, IsOfBytes, LastSynced, synced_by}
+use Rattle.snap_top.specs.Moment.{IsSoundAlways}
+use Rattle.snap_top.specs.Effect.{effect}
+use Rattle.snap_top.specs.SoundAtEnd.{IsSoundAtEnd}
+use Rattle.snap_top.specs.Stands.{StandsAfter}
+use Rattle.snap_top.specs.RunOf.{end_of, entry_of}
+use Rattle.snap_top.specs.Entry.{Entry, Exit}
+use Rattle.snap_top.specs.Did.{Did, fixes, reads_only, scrubs, syncs}
+use Rattle.snap_top.specs.Sync.{end_table}
 use Rattle.snap_top.proofs.OfFixLemmas.{loaded_sound}
 
 -- a change from outside keeps what it doesn't count as changed
@@ -74,7 +79,7 @@ pub last_bytes : (snapshot : Closed) (stripe : ℕ) → IsOfBytes snapshot → A
 last_bytes snapshot stripe bytes = newest_bytes (snapshot stripe) (bytes stripe)
 
 -- a snapshot stays of bytes over a run
-pub stays_of_bytes : (before : Entry) (exit : Exit) (did : Did) (count : ℕ) (last : LastSynced) → IsDidOf before exit did → IsOfBytes last.snapshot → IsOfBytes (synced_by did count last).snapshot
+pub stays_of_bytes : (before : Entry) (exit : Exit) (did : Did) (count : ℕ) (last : LastSynced) → (effect did).is_of before exit → IsOfBytes last.snapshot → IsOfBytes (synced_by did count last).snapshot
 stays_of_bytes before exit reads_only count last is bytes stripe = bytes stripe
 stays_of_bytes before exit (fixes failed run) count last is bytes stripe = bytes stripe
 stays_of_bytes before exit (scrubs failed run) count last is bytes stripe = bytes stripe
@@ -83,19 +88,6 @@ stays_of_bytes before exit (syncs failed run) count last is bytes stripe =
     (rows_bytes run.plan.start (take count run.readings) no_rows
     (All-take (λ (reading : StripeReading). AreBytes (row_of reading)) count run.readings is.bytes) (λ s. tt) stripe)
     (bytes stripe)
-
--- ---- the end of a sync
-
--- by what a run did
-ends_by : (before : Entry) (exit : Exit) (status copies : ℕ) (left : Files) (last : LastSynced) (GoesOn : LastSynced → Type 0)
-    → ((ended : IsSoundAtEnd before exit status) → IsSoundSynced before exit status ended.run copies left last GoesOn)
-    → (did : Did) → EndsSound did before exit status → EndsSoundBy did before exit status copies left last GoesOn
-ends_by before exit status copies left last GoesOn synced reads_only ends = tt
-ends_by before exit status copies left last GoesOn synced (syncs true run) ends = tt
-ends_by before exit status copies left last GoesOn synced (syncs false run) ends =
-    subst (λ (its : SyncRun). IsSoundSynced before exit status its copies left last GoesOn) ends.1 (synced ends.0)
-ends_by before exit status copies left last GoesOn synced (fixes failed run) ends = tt
-ends_by before exit status copies left last GoesOn synced (scrubs failed run) ends = tt
 
 -- ---- a history
 
@@ -136,9 +128,9 @@ module _ {O F V W : Type 0} (opener_view : O → OpenerView) (folder_view : F �
         did = always.did;
         is_did = always.is_did;
         sound = λ supposed.
-            let supposed_here : IsSupposed always.did (copies_of before.opener.vault) before.opener.vault.files last.snapshot
-            = subst (λ (n : ℕ). IsSupposed always.did n before.opener.vault.files last.snapshot) (sym runs.copies_are)
-            (subst (λ (fs : Files). IsSupposed always.did copies fs last.snapshot) (sym runs.files_are) supposed) in
+            let supposed_here : (effect always.did).supposes (copies_of before.opener.vault) before.opener.vault.files last.snapshot
+            = subst (λ (n : ℕ). (effect always.did).supposes n before.opener.vault.files last.snapshot) (sym runs.copies_are)
+            (subst (λ (fs : Files). (effect always.did).supposes copies fs last.snapshot) (sym runs.files_are) supposed) in
             let next = always.sound stop.left last.snapshot last.is_changed runs.stands here supposed_here in
             let after : AreSoundBy copies stop.left (synced_by always.did next.count last)
             = subst (λ (n : ℕ). AreSoundBy n stop.left (synced_by always.did next.count last)) runs.copies_are next.sound in
@@ -151,8 +143,11 @@ module _ {O F V W : Type 0} (opener_view : O → OpenerView) (folder_view : F �
                 goes_on = stays_sound copies steps stop.left (synced_by always.did next.count last) history.1 after;
               };
             };
-        at_end = λ stands. ends_by before exit stop.run.status copies stop.left last (StaysSound opener_view folder_view vault_view sink_view copies steps stop.left)
-            (λ ended. synced_of ended stands) always.did always.at_end;
+        at_end = λ run did_is stands.
+            let ends : (ends : IsSoundAtEnd before exit stop.run.status) × (ends.run ≡ run)
+            = subst (λ (did : Did). (effect did).sound_at_end before exit stop.run.status) did_is always.at_end in
+            subst (λ (its : SyncRun). IsSoundSynced before exit stop.run.status its copies stop.left last (StaysSound opener_view folder_view vault_view sink_view copies steps stop.left))
+            ends.1 (synced_of ends.0 stands);
         synced = λ asked stands. let ended : IsSoundAtEnd before exit stop.run.status = always.synced asked in (ended.run, synced_of ended stands);
         restores = λ ends genuine.
             let over = ends.is_fix.over in

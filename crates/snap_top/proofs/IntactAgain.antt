@@ -29,8 +29,8 @@ use Rattle.stripe_examiner.specs.Known.{AreFacts, IsTried, is_whole, whole_level
 use Rattle.repair_scope.specs.Plan.{is_searched}
 use Rattle.stripe_examiner.specs.Place.{starts_of}
 use Rattle.snap_top.specs.Fix.{FixRun, FixesOver, MayStandFixed}
-use Rattle.snap_top.specs.Moment.{IsFixOf}
-use Rattle.snap_top.specs.Run.{Entry, Exit}
+use Rattle.snap_top.specs.Began.{IsFixOf}
+use Rattle.snap_top.specs.Entry.{Entry, Exit}
 use Rattle.snap_top.specs.Stopping.{FindsNoLess}
 use Rattle.snap_top.specs.Undamaged.{is_read, was_read}
 use Rattle.snap_top.proofs.KeptLemmas.{kept_in, made_in}

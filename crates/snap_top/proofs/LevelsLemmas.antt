@@ -23,8 +23,10 @@ use Rattle.snap_report.specs.declared.events.Event.{Event}
 use Rattle.snap_top.specs.Complete.{RefusalsTouchNothing}
 use Rattle.snap_top.specs.End.{status_of}
 use Rattle.snap_top.specs.Levels.{IsOpenedBy, IsShapedBy, by_levels, by_parts, by_setup, is_split, opener_by, said_by, setup_in}
-use Rattle.snap_top.specs.Opening.{ConfiguresNot, IsConfigured, Refuses, Says, SaysNot}
-use Rattle.snap_top.specs.Run.{Entry, Exit, IsExercised, IsRefused, IsRun, Ran, RanWith, Works, entry_by, entry_seen, exit_by, exit_seen, setup_of as setup_at}
+use Rattle.snap_top.specs.Opening.{ConfiguresNot, Refuses, SaysNot}
+use Rattle.snap_top.specs.Asked.{IsConfigured, Says}
+use Rattle.snap_top.specs.Run.{IsExercised, IsRefused, IsRun, Ran, RanWith, Works, setup_of as setup_at}
+use Rattle.snap_top.specs.Entry.{Entry, entry_by, entry_seen, Exit, exit_by, exit_seen}
 use Rattle.snap_top.specs.Task.{Task}
 use Rattle.snap_top.specs.Views.{world_view}
 use Rattle.snap_top.specs.declared.end.Ending.{Ending}

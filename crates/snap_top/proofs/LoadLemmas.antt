@@ -7,7 +7,8 @@ use Rattle.content_file.specs.declared.loading.LoadFault.{LoadFault}
 use Rattle.content_file.specs.declared.loading.LoadFault.TheVariants as loads
 use Rattle.disk_model.specs.Vault.{VaultView, copies_of, state_of}
 use Rattle.file_table.specs.Table.{TableValue}
-use Rattle.snap_top.specs.Run.{ReadsCopies, LoadsFrom, LoadsInOrder, LoadsNot}
+use Rattle.snap_top.specs.Run.{LoadsNot}
+use Rattle.snap_top.specs.Loading.{LoadsFrom, LoadsInOrder, ReadsCopies}
 use Rattle.snap_top.specs.Views.{view_of}
 use Rattle.snap_top.proofs.ViewsLemmas.{some_calls_of}
 

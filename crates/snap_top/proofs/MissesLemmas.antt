@@ -33,9 +33,10 @@ use Rattle.stripe_reader.specs.Columns.{folder_at}
 use Rattle.stripe_reader.specs.Reading.{task_at}
 use Rattle.snap_top.specs.NextFix.{IsNextFix}
 use Rattle.snap_top.specs.Fix.{FixRun}
-use Rattle.snap_top.specs.Moment.{IsFixOf, TellsAll}
+use Rattle.snap_top.specs.Began.{IsFixOf}
+use Rattle.snap_top.specs.Stands.{TellsAll}
 use Rattle.snap_top.specs.Restoring.{EndsFixed}
-use Rattle.snap_top.specs.Run.{Entry, Exit}
+use Rattle.snap_top.specs.Entry.{Entry, Exit}
 use Rattle.snap_top.specs.Stopping.{FindsNoLess, stop_of}
 use Rattle.snap_top.specs.Undamaged.{is_read, was_read}
 use Rattle.snap_top.proofs.HeldLemmas.{levels_given, list_is, none_risen, rose_since, tells_then, tree_then}

@@ -23,11 +23,16 @@ use Rattle.snap_sync.specs.Part.{AreOfPartSyncs, IsToldRun, SyncRun, layout_by, 
 use Rattle.snap_sync.specs.Soundness.{AreSound, changed_without, snapshot_with}
 use Rattle.snap_top.specs.Fix.{FixRun, MayStandFixed}
 use Rattle.snap_top.specs.End.{status_of}
-use Rattle.snap_top.specs.Moment.{BreaksBehind, EndsSound, EveryMomentIsSound, HoldsFresh, ChangesNothing, IsFixOf, IsScrubOf, IsSoundAlways, IsSoundAtEnd, IsSyncOf, StandsIn, SyncsToItsEnd}
-use Rattle.snap_top.specs.Opening.{asked_by}
-use Rattle.snap_top.specs.Run.{Entry, Exit, Ran}
+use Rattle.snap_top.specs.Moment.{EveryMomentIsSound, IsSoundAlways, SyncsToItsEnd}
+use Rattle.snap_top.specs.Effect.{effect}
+use Rattle.snap_top.specs.SoundAtEnd.{IsSoundAtEnd}
+use Rattle.snap_top.specs.Stands.{HoldsFresh, StandsIn}
+use Rattle.snap_top.specs.Asked.{asked_by, ChangesNothing}
+use Rattle.snap_top.specs.Began.{IsFixOf, IsScrubOf, IsSyncOf}
+use Rattle.snap_top.specs.Run.{Ran}
+use Rattle.snap_top.specs.Entry.{Entry, Exit}
 use Rattle.snap_top.specs.Scrub.{MayStandMarked, ScrubRun}
-use Rattle.snap_top.specs.Task.{Did, fixes, reads_only, scrubs, syncs, may_stand}
+use Rattle.snap_top.specs.Did.{Did, fixes, reads_only, scrubs, syncs}
 use Rattle.snap_top.specs.declared.end.End.{End}
 use Rattle.snap_top.specs.declared.end.End.TheVariants.{Exercised, Refused, Worked}
 use Rattle.array_setup.specs.Setup.{setup_value}
@@ -58,7 +63,7 @@ FixKeepsSound = (plan : FixPlan) (starts : StartsValue) (firsts : List FolderVie
     → Sound table files snapshot is_changed → Sound table left snapshot is_changed
 
 -- by whether it broke off
-breaks_behind : (before : Entry) (exit : Exit) (failed : Bool) (run : SyncRun) (is : IsSyncOf before exit run) → (IsTrue failed → Rose is.loading.at.faults exit.after.vault.faults) → BreaksBehind before exit (syncs failed run) is
+breaks_behind : (before : Entry) (exit : Exit) (failed : Bool) (run : SyncRun) (is : IsSyncOf before exit run) → (IsTrue failed → Rose is.loading.at.faults exit.after.vault.faults) → (effect (syncs failed run)).breaks_behind before exit is
 breaks_behind before exit true run is broke = broke refl
 breaks_behind before exit false run is broke = tt
 
@@ -69,13 +74,13 @@ module _ (before : Entry) (exit : Exit) (status : ℕ) (fresh : HoldsFresh befor
   old = before.opener.vault.files
 
   -- by what the run did
-  pub stands_by : (did : Did) → ChangesBy (may_stand did) before.opener.vault exit.after.vault → (files : Files) → StandsIn before exit files → may_stand did old files
-  stands_by did changes files (inl same) = subst (may_stand did old) (sym same) (changes.reads fresh.tells_vault)
+  pub stands_by : (did : Did) → ChangesBy (effect did).may_stand before.opener.vault exit.after.vault → (files : Files) → StandsIn before exit files → (effect did).may_stand old files
+  stands_by did changes files (inl same) = subst ((effect did).may_stand old) (sym same) (changes.reads fresh.tells_vault)
   stands_by did changes files (inr at) =
       let told : IsTrue before.opener.vault.images.told = changes.leaves.told at.0 in
       ⊎_elim
-      (λ was. subst (may_stand did old) (sym (fresh.settled told files was)) (stands_still did old))
-      (λ (by : ComesBy (may_stand did) before.opener.vault.images files). subst (λ (from : Files). may_stand did from files) (fresh.settled told by.0 by.1) by.2)
+      (λ was. subst ((effect did).may_stand old) (sym (fresh.settled told files was)) (stands_still did old))
+      (λ (by : ComesBy (effect did).may_stand before.opener.vault.images files). subst (λ (from : Files). (effect did).may_stand from files) (fresh.settled told by.0 by.1) by.2)
       (changes.leaves.within at.0 before.opener.vault.images.moment files (omega arith) at.1)
 
   -- nothing was opened
@@ -161,7 +166,7 @@ module _ (before : Entry) (exit : Exit) (status : ℕ) (fresh : HoldsFresh befor
 
   module _ (laid : LayoutIsOfTrees) (of_parts : CopiesAreOfPartSyncs) (sound : MomentsAreSound) (keeps_sound : FixKeepsSound) (one_table : OneTable) (marks_valid : ScrubKeepsValid) (marks_sound : ScrubKeepsSound) where
     -- a sync
-    sound_syncing : (failed : Bool) (run : SyncRun) (is : IsSyncOf before exit run) → (IsTrue failed → Rose is.loading.at.faults exit.after.vault.faults) → EndsSound (syncs failed run) before exit status
+    sound_syncing : (failed : Bool) (run : SyncRun) (is : IsSyncOf before exit run) → (IsTrue failed → Rose is.loading.at.faults exit.after.vault.faults) → (effect (syncs failed run)).sound_at_end before exit status
         → ((files : Files) → StandsIn before exit files → MayStand run.plan run.readings old files) → IsSoundAlways before exit status
     sound_syncing failed run is broke ends moments =
         let over = is.over in
@@ -192,18 +197,18 @@ module _ (before : Entry) (exit : Exit) (status : ℕ) (fresh : HoldsFresh befor
         }
 
     -- a run that opened its array
-    pub sound_run : (did : Did) → EndsSound did before exit status → ChangesBy (may_stand did) before.opener.vault exit.after.vault → (did ≡ reads_only) ⊎ (HasSync before exit did ⊎ (HasFix before exit did ⊎ HasScrub before exit did)) → IsSoundAlways before exit status
-    sound_run did ends changes (inl read) = sound_reading (stands_by reads_only (subst (λ d. ChangesBy (may_stand d) before.opener.vault exit.after.vault) read changes))
+    pub sound_run : (did : Did) → (effect did).sound_at_end before exit status → ChangesBy (effect did).may_stand before.opener.vault exit.after.vault → (did ≡ reads_only) ⊎ (HasSync before exit did ⊎ (HasFix before exit did ⊎ HasScrub before exit did)) → IsSoundAlways before exit status
+    sound_run did ends changes (inl read) = sound_reading (stands_by reads_only (subst (λ d. ChangesBy (effect d).may_stand before.opener.vault exit.after.vault) read changes))
     sound_run did ends changes (inr (inl sync)) =
-        sound_syncing sync.failed sync.run sync.is_sync sync.broke (subst (λ d. EndsSound d before exit status) sync.did_is ends) (stands_by (syncs sync.failed sync.run) (subst (λ d. ChangesBy (may_stand d) before.opener.vault exit.after.vault) sync.did_is changes))
+        sound_syncing sync.failed sync.run sync.is_sync sync.broke (subst (λ d. (effect d).sound_at_end before exit status) sync.did_is ends) (stands_by (syncs sync.failed sync.run) (subst (λ d. ChangesBy (effect d).may_stand before.opener.vault exit.after.vault) sync.did_is changes))
     sound_run did ends changes (inr (inr (inl fix))) =
-        sound_fixing keeps_sound fix.failed fix.run fix.is_fix (stands_by (fixes fix.failed fix.run) (subst (λ d. ChangesBy (may_stand d) before.opener.vault exit.after.vault) fix.did_is changes))
+        sound_fixing keeps_sound fix.failed fix.run fix.is_fix (stands_by (fixes fix.failed fix.run) (subst (λ d. ChangesBy (effect d).may_stand before.opener.vault exit.after.vault) fix.did_is changes))
     sound_run did ends changes (inr (inr (inr scrub))) =
         sound_scrubbing one_table marks_valid marks_sound scrub.failed scrub.run scrub.is_scrub
-        (stands_by (scrubs scrub.failed scrub.run) (subst (λ d. ChangesBy (may_stand d) before.opener.vault exit.after.vault) scrub.did_is changes))
+        (stands_by (scrubs scrub.failed scrub.run) (subst (λ d. ChangesBy (effect d).may_stand before.opener.vault exit.after.vault) scrub.did_is changes))
 
     -- it is by what the run did
-    pub run_did_is : (did : Did) (ends : EndsSound did before exit status) (changes : ChangesBy (may_stand did) before.opener.vault exit.after.vault) (how : (did ≡ reads_only) ⊎ (HasSync before exit did ⊎ (HasFix before exit did ⊎ HasScrub before exit did))) → (sound_run did ends changes how).did ≡ did
+    pub run_did_is : (did : Did) (ends : (effect did).sound_at_end before exit status) (changes : ChangesBy (effect did).may_stand before.opener.vault exit.after.vault) (how : (did ≡ reads_only) ⊎ (HasSync before exit did ⊎ (HasFix before exit did ⊎ HasScrub before exit did))) → (sound_run did ends changes how).did ≡ did
     unfolding sound_run sound_reading sound_syncing sound_fixing sound_scrubbing
     run_did_is did ends changes (inl read) = sym read
     run_did_is did ends changes (inr (inl sync)) = sym sync.did_is

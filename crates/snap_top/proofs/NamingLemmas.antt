@@ -54,14 +54,17 @@ use Rattle.snap_top.specs.Checking.{CheckEnds, ChecksBy}
 use Rattle.snap_top.specs.Does.{DoesCommand, StaysIdle}
 use Rattle.snap_top.specs.Dup.{dup_text}
 use Rattle.snap_top.specs.End.{status_of}
-use Rattle.snap_top.specs.Ended.{IsEndStatus}
+use Rattle.snap_top.specs.Output.{IsEndStatus}
 use Rattle.snap_fix.specs.Restored.{CanBeHad, IsDamagedCell, IsGivenBlock}
 use Rattle.snap_top.specs.Lost.{IsToldLost, NamesLost, NamesPending}
-use Rattle.snap_top.specs.Moment.{TellsVault}
-use Rattle.snap_top.specs.Naming.{ChecksEnd, EndsAsAsked, EndsAudited, EndsChecked, HasChecked, IsCheckOf, command_in, events_found}
-use Rattle.snap_top.specs.Opening.{asked_by}
-use Rattle.snap_top.specs.Run.{Entry, Exit, IsAnswered, IsRun, Ran}
-use Rattle.snap_top.specs.Task.{Left, WorksOnArray}
+use Rattle.snap_top.specs.Stands.{TellsVault}
+use Rattle.snap_top.specs.Naming.{EndsAudited, EndsChecked, HasChecked, events_found}
+use Rattle.snap_top.specs.AsAsked.{ChecksEnd, EndsAsAsked}
+use Rattle.snap_top.specs.Began.{command_in, IsCheckOf}
+use Rattle.snap_top.specs.Asked.{asked_by, WorksOnArray}
+use Rattle.snap_top.specs.Run.{IsAnswered, IsRun, Ran}
+use Rattle.snap_top.specs.Entry.{Entry, Exit}
+use Rattle.snap_top.specs.Task.{Left}
 use Rattle.snap_top.specs.Views.{view_of, world_of}
 use Rattle.snap_top.specs.declared.end.End.{End}
 use Rattle.snap_top.specs.declared.end.Ending.TheVariants.{Answered}

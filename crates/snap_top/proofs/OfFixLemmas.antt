@@ -35,10 +35,13 @@ use Rattle.snap_top.specs.Does.{DoesCommand, PrintsOrStays}
 use Rattle.snap_top.specs.Dup.{dup_text}
 use Rattle.snap_top.specs.Fix.{AllFixed, FixRun, FixesOver, IsGenuineFix}
 use Rattle.snap_top.specs.Fixing.{FixBroke, FixCourse, FixEnds, FixesBy, fix_of as run_fixed}
-use Rattle.snap_top.specs.Moment.{IsFixOf, IsScrubOf, IsSyncOf}
-use Rattle.snap_top.specs.Run.{Entry, Exit, IsAnswered, IsRun}
+use Rattle.snap_top.specs.Began.{IsFixOf, IsScrubOf, IsSyncOf}
+use Rattle.snap_top.specs.Run.{IsAnswered, IsRun}
+use Rattle.snap_top.specs.Entry.{Entry, Exit}
 use Rattle.snap_top.specs.Scrub.{ScrubRun}
-use Rattle.snap_top.specs.Task.{Task, Did, fixes, folders_after, reads_only, scrubs, syncs, Left}
+use Rattle.snap_top.specs.Task.{Task, Left}
+use Rattle.snap_top.specs.Effect.{effect}
+use Rattle.snap_top.specs.Did.{Did, fixes, reads_only, scrubs, syncs}
 use Rattle.snap_top.specs.Views.{World, view_of, world_of}
 use Rattle.snap_top.specs.declared.end.Ending.{Ending}
 use Rattle.snap_top.specs.declared.end.Ending.TheVariants.{NotLoaded, NoTable, OtherArray, Answered}
@@ -208,7 +211,7 @@ module _ (before : Entry) (exit : Exit) (tells : IsTrue before.opener.tells) (te
             no_gifts = course.no_gifts;
           };
           makes = subst (λ (olds : List FolderView). AllFixed fixed olds exit.after.folders) (given_folders before exit tells tells_vault setup ending told ran)
-              (subst (λ (did : Did). folders_after did ran.given.folders exit.after.folders) course.did_is ran.keeps.folders);
+              (subst (λ (did : Did). (effect did).folders_after ran.given.folders exit.after.folders) course.did_is ran.keeps.folders);
           loading = table_loading before exit tells tells_vault setup ending told ran left one course_of.calls;
         }
 

@@ -23,11 +23,13 @@ use Rattle.snap_scrub.specs.Plan.{plan_of}
 use Rattle.snap_scrub.specs.Reading.{AreLevelsOf, ScrubReading, cells_of}
 use Rattle.snap_sync.specs.Soundness.{AreSound}
 use Rattle.stripe_findings.specs.Reading.{stripes_of}
-use Rattle.snap_top.specs.Moment.{IsScrubOf}
-use Rattle.snap_top.specs.Run.{Entry, Exit, IsAnswered, IsRun}
+use Rattle.snap_top.specs.Began.{IsScrubOf}
+use Rattle.snap_top.specs.Run.{IsAnswered, IsRun}
+use Rattle.snap_top.specs.Entry.{Entry, Exit}
 use Rattle.snap_top.specs.Scrub.{MayStandMarked, ScrubRun, marked_table}
 use Rattle.snap_top.specs.Scrubbing.{ScrubCourse, ScrubsBy, scrub_of}
-use Rattle.snap_top.specs.Task.{Did, Left, Task, reads_only}
+use Rattle.snap_top.specs.Task.{Left, Task}
+use Rattle.snap_top.specs.Did.{Did, reads_only}
 use Rattle.snap_top.specs.Views.{World, view_of, world_of}
 use Rattle.snap_top.specs.declared.end.Ending.{Ending}
 use Rattle.snap_top.proofs.OfSyncLemmas.{configured_for, given_copies, start_files, start_folders, start_tells, table_among, table_loading, table_loaded}

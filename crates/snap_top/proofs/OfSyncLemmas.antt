@@ -25,13 +25,15 @@ use Rattle.snap_report.specs.declared.events.Event.{Event}
 use Rattle.snap_sync.specs.Part.{SyncRun}
 use Rattle.snap_sync.specs.Soundness.{IsLoadedFrom}
 use Rattle.snap_top.specs.Array.{empty_table}
-use Rattle.snap_top.specs.Moment.{IsSyncOf}
-use Rattle.snap_top.specs.Opening.{IsConfigured}
-use Rattle.snap_top.specs.Loading.{Loading}
-use Rattle.snap_top.specs.Run.{Entry, Exit, BeginsWith, IsAnswered, IsRun, LoadsFrom, LoadsInOrder, ReadsCopies}
+use Rattle.snap_top.specs.Began.{IsSyncOf}
+use Rattle.snap_top.specs.Asked.{IsConfigured}
+use Rattle.snap_top.specs.Loading.{Loading, BeginsWith, LoadsFrom, LoadsInOrder, ReadsCopies}
+use Rattle.snap_top.specs.Run.{IsAnswered, IsRun}
+use Rattle.snap_top.specs.Entry.{Entry, Exit}
 use Rattle.snap_top.specs.Sync.{BeginsAmong, BeginsFrom, HoldsNoContent, SyncsOver}
 use Rattle.snap_top.specs.Syncing.{SyncCourse, SyncsBy, run_of}
-use Rattle.snap_top.specs.Task.{Task, Did, reads_only, Left}
+use Rattle.snap_top.specs.Task.{Task, Left}
+use Rattle.snap_top.specs.Did.{Did, reads_only}
 use Rattle.snap_top.specs.Views.{World, world_of, view_of}
 use Rattle.snap_top.specs.declared.end.Ending.{Ending}
 use Rattle.snap_top.proofs.BytesLemmas.{sync_bytes}

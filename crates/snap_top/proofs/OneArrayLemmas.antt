@@ -31,14 +31,16 @@ use Rattle.repair_scope.specs.Plan.{FixPlan, is_searched, names_of, stripes_of}
 use Rattle.repair_scope.specs.declared.scope.Mode.{Mode}
 use Rattle.repair_scope.specs.declared.scope.Mode.TheVariants as modes
 use Rattle.stripe_reader.specs.WindowValue.{no_slot}
-use Rattle.snap_top.specs.Alike.{AskAlike, CheckAlike, FixAlike, HoldAlike, KeptAlike, NothingRose}
+use Rattle.snap_top.specs.Alike.{AskAlike, CheckAlike, FixAlike, HoldAlike, KeptAlike}
+use Rattle.snap_top.specs.Unbroken.{NothingRose}
 use Rattle.snap_top.specs.Check.{CheckRun}
 use Rattle.snap_top.specs.Fix.{FixRun}
-use Rattle.snap_top.specs.Moment.{TellsAll}
-use Rattle.snap_top.specs.Naming.{HasChecked, command_in, events_found}
-use Rattle.snap_top.specs.Opening.{IsConfigured, asked_by}
+use Rattle.snap_top.specs.Stands.{TellsAll}
+use Rattle.snap_top.specs.Naming.{HasChecked, events_found}
+use Rattle.snap_top.specs.Began.{command_in}
+use Rattle.snap_top.specs.Asked.{asked_by, IsConfigured}
 use Rattle.snap_top.specs.Restoring.{EndsFixed}
-use Rattle.snap_top.specs.Run.{Entry, Exit}
+use Rattle.snap_top.specs.Entry.{Entry, Exit}
 use Rattle.snap_top.proofs.AlikeLemmas.{FixFindsWhatACheckFinds, one_plan}
 use Rattle.snap_top.proofs.AskedLemmas.{command_asked, one_setup, same_loaded, same_status, unfailed}
 use Rattle.snap_top.proofs.HeldLemmas.{CameAsHeld, check_held, fix_held, held_slot, lists_same, none_risen, tells_then}

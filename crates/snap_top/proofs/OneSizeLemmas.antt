@@ -17,7 +17,7 @@ use Rattle.snap_sync.specs.Part.{SyncRun}
 use Rattle.stripe_findings.specs.Reading.{StripeReading, is_verified}
 use Rattle.snap_sync.specs.Reading.{ReadsFirst}
 use Rattle.snap_top.specs.Headline.{HaveOneSize}
-use Rattle.snap_top.specs.History.{IsChange}
+use Rattle.snap_top.specs.LastSynced.{IsChange}
 use Rattle.snap_top.specs.Scrub.{MayStandMarked, ScrubRun, ScrubsOver, marked_table}
 use Rattle.snap_top.specs.Sync.{BeginsAmong, SyncsOver}
 use Rattle.snap_top.proofs.OfScrubLemmas.{ScrubKeepsValid}

@@ -15,8 +15,8 @@ use Rattle.snap_config.specs.declared.options.Options.{Options}
 use Rattle.disk_model.specs.declared.draft.Draft.TheVariants.{Absent}
 use Rattle.snap_top.specs.Known.{unknown_in}
 use Rattle.snap_top.specs.Levels.{by_parts, is_split}
-use Rattle.snap_top.specs.Opening.{IsConfigured, IsGivenBy, IsGivenFor, IsUnopened, Says, StateIsGiven, reads_config, opens_places, is_failure}
-use Rattle.snap_top.specs.Task.{WorksOnArray}
+use Rattle.snap_top.specs.Opening.{IsGivenBy, IsGivenFor, IsUnopened, StateIsGiven, reads_config, opens_places, is_failure}
+use Rattle.snap_top.specs.Asked.{IsConfigured, Says, WorksOnArray}
 use Rattle.snap_top.proofs.LevelsLemmas.{configured_by, goes_on_by, levels_by, state_by}
 use Rattle.parity_split.specs.Split.{loosely}
 

@@ -19,9 +19,13 @@ use Rattle.snap_sync.specs.Images.{HasParityAfter}
 use Rattle.snap_sync.specs.Part.{AllTell, AllVerified, IsFullSync, IsPartSync, IsToldRun, NoneRose, SyncRun, readings_by, run_table, run_trees, run_verified, verified_stripes}
 use Rattle.stripe_findings.specs.Reading.{StripeReading, is_verified, stripes_of}
 use Rattle.snap_top.specs.End.{status_of}
-use Rattle.snap_top.specs.Moment.{EndsInPart, IsSyncOf, SyncsEndInPart, TellsAll}
-use Rattle.snap_top.specs.Run.{Entry, Exit, Ran}
-use Rattle.snap_top.specs.Task.{LeavesSynced, end_table}
+use Rattle.snap_top.specs.InPart.{EndsInPart}
+use Rattle.snap_top.specs.AsAsked.{SyncsEndInPart}
+use Rattle.snap_top.specs.Began.{IsSyncOf}
+use Rattle.snap_top.specs.Stands.{TellsAll}
+use Rattle.snap_top.specs.Run.{Ran}
+use Rattle.snap_top.specs.Entry.{Entry, Exit}
+use Rattle.snap_top.specs.Sync.{end_table, LeavesSynced}
 use Rattle.snap_top.specs.declared.end.End.{End}
 use Rattle.snap_top.specs.declared.end.Ending.TheVariants.{Answered}
 use Rattle.snap_top.proofs.EndedLemmas.{output_rose}

@@ -10,9 +10,10 @@ use Rattle.snap_report.specs.Answer.{done_answer, status_of as answer_status}
 use Rattle.snap_report.specs.Telling.{Tells, between}
 use Rattle.snap_report.specs.declared.events.Event.{Event}
 use Rattle.snap_top.specs.Does.{PrintsAlone}
-use Rattle.snap_top.specs.Moment.{TellsVault}
+use Rattle.snap_top.specs.Stands.{TellsVault}
 use Rattle.snap_top.specs.Printing.{EndsPrinted}
-use Rattle.snap_top.specs.Run.{Entry, Exit, IsAnswered, IsRun}
+use Rattle.snap_top.specs.Run.{IsAnswered, IsRun}
+use Rattle.snap_top.specs.Entry.{Entry, Exit}
 use Rattle.snap_top.specs.Task.{Left}
 use Rattle.snap_top.specs.Views.{World, view_of, world_of}
 use Rattle.snap_top.specs.declared.end.Ending.{Ending}

@@ -7,11 +7,12 @@ use Rattle.stripe_examiner.specs.Known.{AreFacts}
 use Rattle.stripe_examiner.specs.Looking.{numbers_of}
 use Rattle.repair_scope.specs.Plan.{FixPlan, names_of, stripes_of}
 use Rattle.repair_scope.specs.declared.scope.Mode.TheVariants as modes
-use Rattle.snap_top.specs.Alike.{HoldAlike, seen_by, AskAlike, NothingRose, SeenAlike}
+use Rattle.snap_top.specs.Alike.{HoldAlike, seen_by, AskAlike, SeenAlike}
+use Rattle.snap_top.specs.Unbroken.{NothingRose}
 use Rattle.snap_top.specs.FixedAlike.{FixesAlike, KeepStampsAlike}
 use Rattle.snap_top.specs.LeftAlike.{PrintAlike, AskSame}
 use Rattle.snap_top.specs.Restoring.{EndsFixed}
-use Rattle.snap_top.specs.Run.{Entry, Exit}
+use Rattle.snap_top.specs.Entry.{Entry, Exit}
 use Rattle.snap_top.proofs.AlikeLemmas.{one_plan}
 use Rattle.snap_top.proofs.OneArrayLemmas.{plan_as, came_as, fix_came, fix_tells, levels_same, selections, setups, slot_alike}
 use Rattle.snap_top.proofs.RestoredLastLemmas.{FilesAreFinished}

@@ -1,5 +1,5 @@
 -- A stop within a run that only reads its folders leaves their files.
-use Rattle.std.proofs.Common.{◌≡◌, inl, inr, List, [], ◌∷◌, Bool, None, Some, IsTrue, ◌∙◌}
+use Rattle.std.proofs.Common.{◌≡◌, inl, inr, List, [], ◌∷◌, Bool, true, false, None, Some, IsTrue, ◌∙◌}
 use Rattle.std.proofs.lemmas.List.Elements.{All-head, All-tail}
 use Rattle.disk_model.specs.Folder.{FolderView, FolderCall, FolderDone, ListFiles, Look, ReadAt, Make, WriteAt, SetSize, SetStamp, Rename}
 use Rattle.disk_model.specs.Opener.{folder_held}
@@ -7,11 +7,12 @@ use Rattle.disk_model.specs.Stopped.{EachCall, MayBeLeft, found_under}
 use Rattle.disk_model.specs.Tree.{Tree}
 use Rattle.disk_model.specs.Writing.{MayDo}
 use Rattle.disk_model.specs.declared.meta.Stamp.{Stamp}
-use Rattle.snap_top.specs.Run.{Entry, Exit}
+use Rattle.snap_top.specs.Entry.{Entry, Exit}
 use Rattle.snap_top.specs.Step.{LeavesEachTree}
 use Rattle.snap_top.specs.Stopping.{MayStandLeft}
-use Rattle.snap_top.specs.Task.{Did, fixes, folders_after, reads_only, scrubs, syncs}
-use Rattle.snap_top.specs.Views.{ReadsOnly, calls_since, folder_at}
+use Rattle.snap_top.specs.Effect.{effect}
+use Rattle.snap_top.specs.Did.{Did, fixes, reads_only, scrubs, syncs}
+use Rattle.snap_top.specs.Views.{AllReadOnly, ReadsOnly, calls_since, folder_at}
 use Rattle.snap_top.proofs.ViewsLemmas.{IsReadingCall, IsReadingDone}
 
 -- a call that does not write leaves them
@@ -36,12 +37,13 @@ stop_stays : (old new : FolderView) (left : Tree) → IsTrue old.tells → Reads
 stop_stays old new left tells read (inl same) = same ∙ read.tree tells
 stop_stays old new left tells read (inr at) = calls_stay old.keeps (calls_since old new) old.tree left (read.reads at.0) at.1
 
+each_stays : (before : Entry) (exit : Exit) → AllReadOnly before.opener.folders exit.after.folders → LeavesEachTree before exit
+each_stays before exit read d left at = stop_stays (folder_held before.opener d) (folder_at exit.after.folders d) left at.tells (read.each d at.within) at.stands
+
 -- by what a run did
-pub each_tree_stays : (did : Did) (before : Entry) (exit : Exit) → folders_after did before.opener.folders exit.after.folders → LeavesEachTree did before exit
-each_tree_stays reads_only before exit after =
-    λ d left at. stop_stays (folder_held before.opener d) (folder_at exit.after.folders d) left at.tells (after.each d at.within) at.stands
-each_tree_stays (syncs failed run) before exit after =
-    λ d left at. stop_stays (folder_held before.opener d) (folder_at exit.after.folders d) left at.tells (after.each d at.within) at.stands
-each_tree_stays (scrubs failed run) before exit after =
-    λ d left at. stop_stays (folder_held before.opener d) (folder_at exit.after.folders d) left at.tells (after.each d at.within) at.stands
-each_tree_stays (fixes failed run) before exit after = tt
+pub each_tree_stays : (did : Did) (before : Entry) (exit : Exit) → (effect did).folders_after before.opener.folders exit.after.folders → (effect did).writes_files ≡ false
+    → LeavesEachTree before exit
+each_tree_stays reads_only before exit after none = each_stays before exit after
+each_tree_stays (syncs failed run) before exit after none = each_stays before exit after
+each_tree_stays (scrubs failed run) before exit after none = each_stays before exit after
+each_tree_stays (fixes failed run) before exit after none = absurd (let clash : true ≡ false = none in cc)

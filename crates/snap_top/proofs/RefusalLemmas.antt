@@ -23,9 +23,12 @@ use Rattle.array_setup.specs.declared.ways.ScrubWay.{ScrubWay}
 use Rattle.array_setup.specs.declared.ways.SyncWay.{SyncWay}
 use Rattle.snap_top.specs.Scrubbing.{ScrubsBy}
 use Rattle.snap_top.specs.Syncing.{SyncsBy, SyncRefuses}
-use Rattle.snap_top.specs.Task.{Task, Did, reads_only, may_stand, Left}
+use Rattle.snap_top.specs.Task.{Task, Left}
+use Rattle.snap_top.specs.Effect.{effect}
+use Rattle.snap_top.specs.Did.{Did, reads_only}
 use Rattle.snap_top.specs.End.{status_of, ending_status}
-use Rattle.snap_top.specs.Run.{Entry, Exit, Goes, OnlyLoads, Ran}
+use Rattle.snap_top.specs.Run.{Goes, OnlyLoads, Ran}
+use Rattle.snap_top.specs.Entry.{Entry, Exit}
 use Rattle.snap_top.specs.Views.{World, world_of}
 use Rattle.snap_top.specs.declared.end.End.{End}
 use Rattle.snap_top.specs.declared.end.End.TheVariants.{Exercised, Refused, Worked}
@@ -156,7 +159,7 @@ refusal_touches_nothing before exit (Worked setup ending) told status is ran ref
     let same = ending_untouched ending ran.task ran.given (world_of exit.after) told ran.did ran.goes (subst (λ n. (n ≡ 2) ⊎ (n ≡ 5)) is refused) in
     record {
       out = same.out ∙ ran.given_out;
-      opened = λ has tells. subst (λ did. ChangesBy (may_stand did) before.opener.vault exit.after.vault) same.did_is (ran.changes tells);
+      opened = λ has tells. subst (λ did. ChangesBy (effect did).may_stand before.opener.vault exit.after.vault) same.did_is (ran.changes tells);
       unopened = λ none. absurd (let clash : true ≡ false = sym ran.has_vault ∙ none in cc);
     }
 refusal_touches_nothing before exit (Exercised answer) told status is ran refused =

@@ -20,18 +20,19 @@ use Rattle.snap_fix.specs.Ending.{is_finished}
 use Rattle.snap_fix.specs.Restored.{HoldsCell, HasFinished, HasFixed, StandsFinished}
 use Rattle.snap_sync.specs.Part.{AllTell, tree_at, trees_of}
 use Rattle.stripe_reader.specs.Columns.{folder_at}
-use Rattle.snap_top.specs.Ended.{has_ended}
+use Rattle.snap_top.specs.Effect.{effect}
 use Rattle.snap_top.specs.Fix.{FixRun, LeavesFixed}
 use Rattle.snap_top.specs.Headline.{FixesRestore, IsSoundStanding}
-use Rattle.snap_top.specs.History.{AreSoundBy}
-use Rattle.snap_top.specs.Moment.{IsDidOf, TellsAll, IsFixOf}
-use Rattle.snap_top.specs.Opening.{asked_by}
+use Rattle.snap_top.specs.LastSynced.{AreSoundBy}
+use Rattle.snap_top.specs.Stands.{TellsAll}
+use Rattle.snap_top.specs.Began.{IsFixOf}
+use Rattle.snap_top.specs.Asked.{asked_by}
 use Rattle.snap_top.specs.Restoring.{EndsFixed, events_in}
-use Rattle.snap_top.specs.Step.{ChangesFiles, EndsBy}
-use Rattle.snap_top.specs.Resumed.{RunOf}
-use Rattle.snap_top.specs.Run.{Entry, Exit}
-use Rattle.snap_top.specs.Standing.{MeetsNoChance, Standing, after_of, before_of}
-use Rattle.snap_top.specs.Task.{Did, fixes, reads_only, scrubs, syncs}
+use Rattle.snap_top.specs.Step.{ChangesFiles}
+use Rattle.snap_top.specs.RunOf.{RunOf}
+use Rattle.snap_top.specs.Entry.{Entry, Exit}
+use Rattle.snap_top.specs.Standing.{Standing, after_of, before_of}
+use Rattle.snap_top.specs.Did.{Did, fixes, reads_only, scrubs, syncs}
 use Rattle.snap_top.proofs.CompleteLemmas.{same_ok}
 use Rattle.snap_top.proofs.EndedLemmas.{only_read}
 use Rattle.snap_top.proofs.KeptLemmas.{among_all, kept_in}
@@ -143,7 +144,7 @@ module _ {O F V W : Type 0} (opener_view : O → OpenerView) (folder_view : F �
 
   -- what a run leaves that was asked for a fix and did not break off; it met no hash by chance
   fixed_by : (before : Entry) (exit : Exit) (status : ℕ) (asked : Options) (selection : Selection) → asked_by before.texts ≡ Ok asked → asked.command ≡ commands.Fix selection → (snapshot : Closed) (did : Did)
-      → IsDidOf before exit did → MeetsNoChance did snapshot → has_ended did ≡ true → EndsBy did before exit status
+      → (effect did).is_of before exit → (effect did).meets_no_chance snapshot → (effect did).has_ended ≡ true → (effect did).ends before exit status
       → AllTell before.opener.folders → (ends : EndsFixed before exit status) × (did ≡ fixes false ends.run) × AreGenuine ends.run.plan (last_row snapshot) (facts_of ends.run.stripes)
   fixed_by before exit status asked selection words command snapshot reads_only is genuine done ends told = absurd (only_read reads_only refl done)
   fixed_by before exit status asked selection words command snapshot (syncs failed sync) is genuine done ends told =
@@ -165,7 +166,7 @@ module _ {O F V W : Type 0} (opener_view : O → OpenerView) (folder_view : F �
       let exit : Exit = ended run in
       let over = goes.over in
       let step = goes.step in
-      let done : has_ended step.always.did ≡ true = step.done fix.asked fix.words (subst ChangesFiles (sym fix.command_is) tt) fix.well in
+      let done : (effect step.always.did).has_ended ≡ true = step.done fix.asked fix.words (subst ChangesFiles (sym fix.command_is) tt) fix.well in
       let both = fixed_by before exit run.status fix.asked fix.selection fix.words fix.command_is standing.last.snapshot step.always.did step.always.is_did goes.genuine done (step.at_end done) over.tells.tells_folders in
       let ends : EndsFixed before exit run.status = both.0 in
       let fixed : FixRun = ends.run in

@@ -47,15 +47,20 @@ use Rattle.snap_report.specs.declared.events.Event.TheVariants as events
 use Rattle.snap_sync.specs.Part.{AllTell}
 use Rattle.snap_top.specs.Does.{DoesCommand}
 use Rattle.snap_top.specs.End.{status_of}
-use Rattle.snap_top.specs.Ended.{IsEndStatus, has_ended}
+use Rattle.snap_top.specs.Effect.{effect}
+use Rattle.snap_top.specs.Output.{IsEndStatus}
 use Rattle.snap_top.specs.Fix.{FixRun, LeavesFixed, MayStandFixed}
 use Rattle.snap_top.specs.Fixing.{FixEnds, FixesBy, fix_of as run_fixed}
 use Rattle.snap_top.specs.Lost.{IsDamagedOfSynced, IsToldLost, NamesPending}
-use Rattle.snap_top.specs.Moment.{IsFixOf, TellsAll}
-use Rattle.snap_top.specs.Opening.{asked_by}
-use Rattle.snap_top.specs.Restoring.{EndsFixed, FixesEnd, Restores, events_in}
-use Rattle.snap_top.specs.Run.{Entry, Exit, IsAnswered, IsRun, Ran}
-use Rattle.snap_top.specs.Task.{Task, Did, Left, WorksOnArray, stands_after}
+use Rattle.snap_top.specs.Began.{IsFixOf}
+use Rattle.snap_top.specs.Stands.{TellsAll}
+use Rattle.snap_top.specs.Asked.{asked_by, WorksOnArray}
+use Rattle.snap_top.specs.Restoring.{EndsFixed, Restores, events_in}
+use Rattle.snap_top.specs.AsAsked.{FixesEnd}
+use Rattle.snap_top.specs.Run.{IsAnswered, IsRun, Ran}
+use Rattle.snap_top.specs.Entry.{Entry, Exit}
+use Rattle.snap_top.specs.Task.{Task, Left}
+use Rattle.snap_top.specs.Did.{Did}
 use Rattle.snap_top.specs.Views.{World, world_of}
 use Rattle.snap_top.specs.declared.end.End.{End}
 use Rattle.snap_top.specs.declared.end.Ending.TheVariants.{Answered}
@@ -116,7 +121,7 @@ rose_from n held given start last same later rose = omega (arith, same, later, r
 
 -- ---- a fix that went to its end, by what it did
 
-pub done_by_did : (answer : Answer) (selection : Selection) (task : Task) (table : TableValue) (before after : World) (left : Left) (did : Did) → FixesBy answer selection task table before after left did → has_ended did ≡ true → IsDoneAnswer answer
+pub done_by_did : (answer : Answer) (selection : Selection) (task : Task) (table : TableValue) (before after : World) (left : Left) (did : Did) → FixesBy answer selection task table before after left did → (effect did).has_ended ≡ true → IsDoneAnswer answer
 done_by_did answers.Clean selection task table before after left did does ended = tt
 done_by_did answers.Found selection task table before after left did does ended = tt
 done_by_did answers.OutputFailed selection task table before after left did does ended = tt
@@ -125,9 +130,9 @@ done_by_did (answers.Emptied disk) selection task table before after left did do
 done_by_did (answers.Full blocks files) selection task table before after left did does ended = absurd does
 done_by_did (answers.Broken (runs.Folder disk)) selection task table before after left did does ended = ⊎_elim
     (λ refuses. absurd (only_read did refuses.did_is ended))
-    (λ broke. absurd (let clash : false ≡ true = ap has_ended (sym broke.course.did_is) ∙ ended in cc))
+    (λ broke. absurd (let clash : false ≡ true = ap (λ (did : Did). (effect did).has_ended) (sym broke.course.did_is) ∙ ended in cc))
     does
-done_by_did (answers.Broken runs.Vault) selection task table before after left did does ended = absurd (let clash : false ≡ true = ap has_ended (sym does.course.did_is) ∙ ended in cc)
+done_by_did (answers.Broken runs.Vault) selection task table before after left did does ended = absurd (let clash : false ≡ true = ap (λ (did : Did). (effect did).has_ended) (sym does.course.did_is) ∙ ended in cc)
 done_by_did (answers.Broken runs.Memory) selection task table before after left did does ended = absurd (only_read did does.did_is ended)
 
 module _ (restored : CellsAreRestored) (lost : CellsAreLost) (unknown_lost : UnknownAreLost) (lost_unknown : LostAreUnknown) (known : BlocksAreKnown) (genuine_facts : FactsAreGenuine) (before : Entry) (exit : Exit) (tells : TellsAll before) where
@@ -193,7 +198,7 @@ module _ (restored : CellsAreRestored) (lost : CellsAreLost) (unknown_lost : Unk
     moment = subst (λ (fs : Files). KeepsLevels run.plan.table.shape.block_size (IsMendedLevel run.plan (facts_of run.stripes)) fs exit.after.vault.files) start_files (ends.vault.mends.changes.reads start_tells)
 
     leaves : Holds (LeavesFixed run) exit.after.vault
-    leaves = subst (λ (did : Did). Holds (stands_after did old) exit.after.vault) ends.course.did_is (ran.ends tells.tells tells.tells_vault)
+    leaves = subst (λ (did : Did). Holds ((effect did).stands_after old) exit.after.vault) ends.course.did_is (ran.ends tells.tells tells.tells_vault)
 
     zeros : AddsZeros run.plan.table.shape.block_size (IsMendedLevel run.plan (facts_of run.stripes)) old exit.after.vault.files
     zeros = subst (λ (fs : Files). AddsZeros run.plan.table.shape.block_size (IsMendedLevel run.plan (facts_of run.stripes)) fs exit.after.vault.files) start_files (ends.vault.zeros start_tells)

@@ -22,7 +22,8 @@ use Rattle.snap_sync.specs.Reading.{ReadsFirst}
 use Rattle.snap_sync.specs.Resumed.{EndsAs, IsFoundAt}
 use Rattle.snap_sync.specs.Soundness.{AreSound, AreSoundAfter, StandsOn, changed_without, snapshot_with}
 use Rattle.snap_top.specs.Array.{empty_table}
-use Rattle.snap_top.specs.Sync.{AreStopped, BeginsFrom, HasNoCopy, IsFirstContent, IsOfArray, Stop, SyncsFrom}
+use Rattle.snap_top.specs.Sync.{BeginsFrom, HasNoCopy, IsFirstContent}
+use Rattle.snap_top.specs.Resumed.{AreStopped, IsOfArray, Stop, SyncsFrom}
 use Rattle.snap_top.proofs.MomentLemmas.{LayoutIsOfTrees}
 use Rattle.snap_top.proofs.SyncedLemmas.{MomentsAreSound, OneTable}
 use Rattle.parity_writer.specs.Sound.{Closed}

@@ -19,12 +19,16 @@ use Rattle.snap_sync.specs.Resumed.{EndsAs}
 use Rattle.snap_sync.specs.Soundness.{AreSound}
 use Rattle.snap_top.specs.Array.{empty_table}
 use Rattle.snap_top.specs.Loading.{ReadsWell}
-use Rattle.snap_top.specs.Moment.{IsDidOf, IsSoundAlways, IsSyncOf, LoadsWell, StandsIn}
-use Rattle.snap_top.specs.Opening.{asked_by}
-use Rattle.snap_top.specs.Resumed.{AreStoppedRuns, AsksForSync, EndAlike, EndsClean, IsBetween, IsStopped, RunOf, StoppedRun, end_of, entry_of}
-use Rattle.snap_top.specs.Run.{Entry, Exit}
-use Rattle.snap_top.specs.Sync.{AreStopped, IsOfArray, Stop, SyncsFrom}
-use Rattle.snap_top.specs.Task.{Did, fixes, reads_only, scrubs, syncs, may_stand, end_table}
+use Rattle.snap_top.specs.Moment.{IsSoundAlways}
+use Rattle.snap_top.specs.Effect.{effect}
+use Rattle.snap_top.specs.Began.{IsSyncOf}
+use Rattle.snap_top.specs.Stands.{StandsIn}
+use Rattle.snap_top.specs.Asked.{asked_by}
+use Rattle.snap_top.specs.Resumed.{AreStoppedRuns, AsksForSync, EndsClean, IsBetween, IsStopped, AreStopped, IsOfArray, Stop, SyncsFrom}
+use Rattle.snap_top.specs.RunOf.{end_of, entry_of, RunOf, StoppedRun}
+use Rattle.snap_top.specs.Entry.{Entry, Exit}
+use Rattle.snap_top.specs.Sync.{EndAlike, end_table}
+use Rattle.snap_top.specs.Did.{Did, fixes, reads_only, scrubs, syncs}
 use Rattle.snap_top.proofs.CompleteLemmas.{same_ok}
 use Rattle.snap_top.proofs.ResumeLemmas.{FullKeepsShape, by_shape}
 use Rattle.snap_top.proofs.SyncEndLemmas.{stands_then}
@@ -78,7 +82,7 @@ module _ (setup : SetupValue) (trees : List Tree) (seed : List ℕ) (files : Fil
 
 -- what a run did is to read, so that all is as it was, or to sync: it was asked for that
 by_did : (setup : SetupValue) (trees : List Tree) (seed : List ℕ) (files : Files) (before : Entry) (exit : Exit) → AsksForSync setup trees seed files before
-    → (old left : Files) (did : Did) (is : IsDidOf before exit did) → LoadsWell before exit did is → may_stand did old left
+    → (old left : Files) (did : Did) (is : (effect did).is_of before exit) → (effect did).loads_well before exit is → (effect did).may_stand old left
     → (left ≡ old) ⊎ ((run : SyncRun) × (is_sync : IsSyncOf before exit run) × ReadsWell before is_sync.loading.at × MayStand run.plan run.readings old left)
 by_did setup trees seed files before exit asks old left reads_only is well moment = inl moment
 by_did setup trees seed files before exit asks old left (syncs failed run) is well moment = inr (run, is, well, moment)
@@ -99,7 +103,7 @@ module _ {O F V W : Type 0} (opener_view : O → OpenerView) (folder_view : F �
   StopsTo files left = (list : List Stop) × AreStopped setup trees seed copies_here list files left
 
   -- one that was stopped before, by what it began with and left
-  stopped_at : (before : Entry) (exit : Exit) (status : ℕ) (files mid left : Files) → AsksForSync setup trees seed files before → (always : IsSoundAlways before exit status) → LoadsWell before exit always.did always.is_did
+  stopped_at : (before : Entry) (exit : Exit) (status : ℕ) (files mid left : Files) → AsksForSync setup trees seed files before → (always : IsSoundAlways before exit status) → (effect always.did).loads_well before exit always.is_did
       → StandsIn before exit mid → StopsTo mid left → StopsTo files left
   stopped_at before exit status files mid left asks always well stands rest =
       ⊎_elim
@@ -128,7 +132,7 @@ module _ {O F V W : Type 0} (opener_view : O → OpenerView) (folder_view : F �
       let exit : Exit = end_of opener_view folder_view vault_view sink_view stop.run in
       let always : IsSoundAlways before exit stop.run.status = between.sound between.fresh in
       let still : stop.left ≡ before.opener.vault.files
-      = subst (λ (did : Did). may_stand did before.opener.vault.files stop.left) (always.reads between.asked between.words between.command_is) (always.moments stop.left between.stands) in
+      = subst (λ (did : Did). (effect did).may_stand before.opener.vault.files stop.left) (always.reads between.asked between.words between.command_is) (always.moments stop.left between.stands) in
       (rest.0, subst (λ (fs : Files). AreStopped setup trees seed copies_here rest.0 fs left) (still ∙ between.files_are) rest.1)
 
   pub stops_are : (stops : List (StoppedRun O F V W)) (files left : Files) → AreStoppedRuns opener_view folder_view vault_view sink_view setup trees seed stops files left → StopsTo files left

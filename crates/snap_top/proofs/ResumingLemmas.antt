@@ -14,18 +14,20 @@ use Rattle.array_setup.specs.Setup.{SetupValue}
 use Rattle.snap_config.specs.declared.options.Command.TheVariants as commands
 use Rattle.snap_config.specs.declared.options.Options.{Options}
 use Rattle.snap_sync.specs.Part.{IsFullSync, IsToldRun, SyncRun, layout_by, run_trees}
-use Rattle.snap_top.specs.Ended.{has_ended}
+use Rattle.snap_top.specs.Effect.{effect}
 use Rattle.snap_top.specs.Headline.{AreStoppedSyncs, EndsInFull, IsAskedToSync, IsResumed, IsSoundStanding, IsSyncOver, Syncs, SyncsClean}
-use Rattle.snap_top.specs.History.{AreSoundBy}
+use Rattle.snap_top.specs.LastSynced.{AreSoundBy}
 use Rattle.snap_top.specs.Loading.{ReadsWell}
-use Rattle.snap_top.specs.Moment.{EndsInPart, IsDidOf, IsSyncOf, LoadsWell}
-use Rattle.snap_top.specs.Opening.{asked_by}
-use Rattle.snap_top.specs.Resumed.{AreStoppedRuns, AsksForSync, EndsClean, RunOf, StoppedRun}
-use Rattle.snap_top.specs.Run.{Entry, Exit}
+use Rattle.snap_top.specs.InPart.{EndsInPart}
+use Rattle.snap_top.specs.Began.{IsSyncOf}
+use Rattle.snap_top.specs.Asked.{asked_by}
+use Rattle.snap_top.specs.Resumed.{AreStoppedRuns, AsksForSync, EndsClean, AreStopped, IsOfArray, Stop, SyncsFrom}
+use Rattle.snap_top.specs.RunOf.{RunOf, StoppedRun}
+use Rattle.snap_top.specs.Entry.{Entry, Exit}
 use Rattle.snap_top.specs.Standing.{Change, Configures, Damages, Edits, GoesOver, IsHistory, Runs, Stage, Standing, after_of, before_of}
-use Rattle.snap_top.specs.Step.{ChangesFiles, EndsBy}
-use Rattle.snap_top.specs.Sync.{AreStopped, BeginsFrom, IsOfArray, Stop, SyncsFrom}
-use Rattle.snap_top.specs.Task.{Did, end_table, fixes, reads_only, scrubs, syncs}
+use Rattle.snap_top.specs.Step.{ChangesFiles}
+use Rattle.snap_top.specs.Sync.{BeginsFrom, end_table}
+use Rattle.snap_top.specs.Did.{Did, fixes, reads_only, scrubs, syncs}
 use Rattle.snap_top.proofs.CompleteLemmas.{same_ok}
 use Rattle.snap_top.proofs.EndedLemmas.{only_read}
 use Rattle.snap_top.proofs.MomentLemmas.{LayoutIsOfTrees}
@@ -98,8 +100,8 @@ module _ {O F V W : Type 0} (opener_view : O → OpenerView) (folder_view : F �
         are.0
 
     -- with status 0 it ended as the part sync of its layout
-    part_by : (before : Entry) (exit : Exit) (status : ℕ) → AsksForSync setup trees seed before.opener.vault.files before → (did : Did) (is : IsDidOf before exit did) → LoadsWell before exit did is → has_ended did ≡ true
-        → EndsBy did before exit status → EndsWell before exit status
+    part_by : (before : Entry) (exit : Exit) (status : ℕ) → AsksForSync setup trees seed before.opener.vault.files before → (did : Did) (is : (effect did).is_of before exit) → (effect did).loads_well before exit is → (effect did).has_ended ≡ true
+        → (effect did).ends before exit status → EndsWell before exit status
     part_by before exit status asks reads_only is well ended ends = absurd (only_read reads_only refl ended)
     part_by before exit status asks (syncs failed sync) is well ended ends =
         let its = ends asks.tells.tells_folders in ends_well before exit status sync is well its.0 its.1
@@ -117,7 +119,7 @@ module _ {O F V W : Type 0} (opener_view : O → OpenerView) (folder_view : F �
     ends_in_its_part run standing next sync zero =
         let asked = sync.asked in
         let step = sync.goes.step in
-        let ended : has_ended step.always.did ≡ true = step.done asked.asked asked.words (subst ChangesFiles (sym asked.command_is) tt) (inl (omega (arith, zero))) in
+        let ended : (effect step.always.did).has_ended ≡ true = step.done asked.asked asked.words (subst ChangesFiles (sym asked.command_is) tt) (inl (omega (arith, zero))) in
         part_by (begun run) (after run) run.status
         (subst (λ (fs : Files). AsksForSync setup trees seed fs (begun run)) (sym sync.goes.over.files) (asks run standing next sync.goes asked))
         step.always.did step.always.is_did sync.reads_well ended (step.at_end ended)

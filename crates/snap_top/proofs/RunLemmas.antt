@@ -26,7 +26,9 @@ use Rattle.snap_report.specs.declared.answer.RunFault.TheVariants.{Folder, Vault
 use Rattle.snap_report.specs.declared.events.Event.{Event}
 use Rattle.snap_report.proofs.ReportLemmas.{all_given_nothing}
 use Rattle.snap_top.specs.Does.{Does, IsDone}
-use Rattle.snap_top.specs.Task.{Task, Did, fixes, reads_only, scrubs, syncs, may_stand, stands_after, vault_after, Left}
+use Rattle.snap_top.specs.Task.{Task, Left, outside_of}
+use Rattle.snap_top.specs.Effect.{effect}
+use Rattle.snap_top.specs.Did.{Did, fixes, reads_only, scrubs, syncs}
 use Rattle.content_file.specs.Spelling.{spelling}
 use Rattle.content_file.proofs.SaveLemmas.{saves_nothing}
 use Rattle.snap_sync.specs.Images.{Opening}
@@ -36,8 +38,10 @@ use Rattle.snap_top.specs.Scrub.{marked_table}
 use Rattle.snap_top.specs.Levels.{by_levels, is_split, opener_by}
 use Rattle.snap_top.specs.Opening.{IsGivenBy, Refuses}
 use Rattle.snap_top.specs.Exercising.{AsksForExercise, Exercises}
-use Rattle.snap_top.specs.Run.{Entry, Works, OnlyLoads, ReadsCopies, LoadsFrom, LoadsInOrder, LoadsNot, BeginsWith, BeginsNot, RanWith, at_entry, at_exit, exit_of}
-use Rattle.snap_top.specs.Views.{WorldView, world_view, world_of, view_of, outside_of}
+use Rattle.snap_top.specs.Run.{Works, OnlyLoads, LoadsNot, BeginsNot, RanWith}
+use Rattle.snap_top.specs.Entry.{at_entry, at_exit, Entry, exit_of}
+use Rattle.snap_top.specs.Loading.{BeginsWith, LoadsFrom, LoadsInOrder, ReadsCopies}
+use Rattle.snap_top.specs.Views.{WorldView, world_view, world_of, view_of}
 use Rattle.snap_top.specs.declared.end.End.{End}
 use Rattle.snap_top.specs.declared.end.End.TheVariants.{Exercised, Refused, Worked}
 use Rattle.snap_top.specs.declared.end.Ending.{Ending}
@@ -51,7 +55,7 @@ use Rattle.snap_top.proofs.OpeningLemmas.{holds_start, no_calls_yet}
 use Rattle.snap_top.proofs.ViewsLemmas.{all_read_nothing, sink_stays}
 
 -- what a run did, it need not have done
-pub stands_still : (did : Did) (files : Files) → may_stand did files files
+pub stands_still : (did : Did) (files : Files) → (effect did).may_stand files files
 stands_still reads_only files = refl
 stands_still (syncs failed run) files = Opening (saves_nothing (spelling run.plan.start) files)
 stands_still (fixes failed run) files = record { contents = refl; bytes = λ level at x outside has. has; grown = λ level at x outside has. inl has }
@@ -119,7 +123,7 @@ copies_unwritten : (old new : VaultState) → ReadsCopies old new → new.writes
 copies_unwritten old new reads = only_reads (IsReadBelow (copies_of (view_of old))) (view_of old) (view_of new) (copy_leaves (copies_of (view_of old))) reads.made
 
 -- before a command
-unwritten_before : (did : Did) (old mid new : VaultState) → mid.writes ≡ old.writes → vault_after did mid new → vault_after did old new
+unwritten_before : (did : Did) (old mid new : VaultState) → mid.writes ≡ old.writes → (effect did).vault_after mid new → (effect did).vault_after old new
 unwritten_before reads_only old mid new before after = after ∙ before
 unwritten_before (syncs failed run) old mid new before after = tt
 unwritten_before (fixes failed run) old mid new before after = tt
@@ -198,8 +202,8 @@ module _ {R : Type 0} (standing : R → ReportView) (stands : R → List Event �
                 (caused_before left.answer left.counted left.told folders given mid out after reads tells done.caused);
           },
         );
-        changes = stays_then (may_stand done.did) given mid after.vault reads.calls.goes_on.tells changes done.changes (stands_still done.did);
-        ends = λ told. subst (λ files. Holds (stands_after done.did files) after.vault) (reads.files told) (done.ends (reads.calls.goes_on.tells ∙ told));
+        changes = stays_then (effect done.did).may_stand given mid after.vault reads.calls.goes_on.tells changes done.changes (stands_still done.did);
+        ends = λ told. subst (λ files. Holds ((effect done.did).stands_after files) after.vault) (reads.files told) (done.ends (reads.calls.goes_on.tells ∙ told));
         keeps = record {
           folders = done.keeps.folders;
           vault = calls_then (view_of (state_of given)) (view_of (state_of mid)) (view_of (state_of after.vault)) reads.calls done.keeps.vault;
@@ -249,9 +253,9 @@ opened_runs standing stands view task setup texts seed moment old new opened len
         goes = works.goes;
         keeps = works.keeps;
         settled = λ told. settled_held (by_levels value old.vault) (by_levels value given) (is_given.state.whole told) (same told) fresh;
-        changes = λ told. changes_held (may_stand works.did) (by_levels value old.vault) (by_levels value given) (by_levels value vault) (is_given.state.whole told) (same told) works.changes;
+        changes = λ told. changes_held (effect works.did).may_stand (by_levels value old.vault) (by_levels value given) (by_levels value vault) (is_given.state.whole told) (same told) works.changes;
         ends = λ told tells. let state = is_given.state.whole told in
-            subst (λ (s : VaultState). Holds (stands_after works.did s.files) (by_levels value vault)) state (works.ends (ap (λ (s : VaultState). s.tells) state ∙ tells));
+            subst (λ (s : VaultState). Holds ((effect works.did).stands_after s.files) (by_levels value vault)) state (works.ends (ap (λ (s : VaultState). s.tells) state ∙ tells));
       };
       reports = works.reports;
     })

@@ -17,10 +17,12 @@ use Rattle.snap_scrub.specs.Marks.{at_most}
 use Rattle.snap_scrub.specs.Plan.{plan_of}
 use Rattle.snap_scrub.specs.Reading.{AreLevelsOf, HasLevels, ScrubReading, cells_of, unread_levels}
 use Rattle.snap_sync.specs.Part.{AllTell, readings_by, trees_of}
-use Rattle.snap_top.specs.Alike.{HoldAlike, NothingRose}
+use Rattle.snap_top.specs.Alike.{HoldAlike}
+use Rattle.snap_top.specs.Unbroken.{NothingRose}
 use Rattle.snap_top.specs.BrokeOff.{BrokeOff, PrintsFront, RoseOnce, RoseOnceBy, ScrubBrokeOff, answered}
 use Rattle.snap_top.specs.LeftAlike.{AskSame}
-use Rattle.snap_top.specs.Run.{Entry, Exit, IsAnswered}
+use Rattle.snap_top.specs.Run.{IsAnswered}
+use Rattle.snap_top.specs.Entry.{Entry, Exit}
 use Rattle.snap_top.specs.Scrubbed.{EndsScrubbed}
 use Rattle.snap_top.specs.Scrubbing.{ScrubBreaks}
 use Rattle.snap_top.specs.Views.{view_of, world_of}

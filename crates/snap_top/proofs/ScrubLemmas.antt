@@ -39,8 +39,9 @@ use Rattle.stripe_findings.specs.Reading.{AreRead, StripeReading}
 use Rattle.snap_top.specs.Does.{DoesCommand, IsDone}
 use Rattle.snap_top.specs.Scrub.{LeavesMarked, ScrubRun}
 use Rattle.snap_top.specs.Scrubbing.{ScrubEnds, ScrubsBy, scrub_of}
-use Rattle.snap_top.specs.Task.{Did, Left, Task, reads_only, scrubs}
-use Rattle.snap_top.specs.Views.{AllReadOnly, World, outside_of, view_of, world_of, world_view}
+use Rattle.snap_top.specs.Task.{Left, Task, outside_of}
+use Rattle.snap_top.specs.Did.{Did, reads_only, scrubs}
+use Rattle.snap_top.specs.Views.{AllReadOnly, World, view_of, world_of, world_view}
 use Rattle.snap_top.proofs.DoneLemmas.{by_output, nothing_more}
 use Rattle.snap_top.proofs.FolderLemmas.{column_reads_only}
 use Rattle.snap_top.proofs.RunLemmas.{any_later}

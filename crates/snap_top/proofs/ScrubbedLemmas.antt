@@ -25,14 +25,19 @@ use Rattle.snap_scrub.specs.Reading.{cells_of, unread_levels}
 use Rattle.snap_sync.specs.Part.{AllTell, NoneRose, readings_by, trees_of}
 use Rattle.snap_top.specs.Does.{DoesCommand}
 use Rattle.snap_top.specs.End.{status_of}
-use Rattle.snap_top.specs.Ended.{IsEndStatus, has_ended}
-use Rattle.snap_top.specs.Moment.{IsScrubOf, TellsVault}
-use Rattle.snap_top.specs.Opening.{asked_by}
-use Rattle.snap_top.specs.Run.{Entry, Exit, IsAnswered, IsRun, Ran}
+use Rattle.snap_top.specs.Effect.{effect}
+use Rattle.snap_top.specs.Output.{IsEndStatus}
+use Rattle.snap_top.specs.Began.{IsScrubOf}
+use Rattle.snap_top.specs.Stands.{TellsVault}
+use Rattle.snap_top.specs.Asked.{asked_by, WorksOnArray}
+use Rattle.snap_top.specs.Run.{IsAnswered, IsRun, Ran}
+use Rattle.snap_top.specs.Entry.{Entry, Exit}
 use Rattle.snap_top.specs.Scrub.{MayStandMarked, ScrubRun, marked_table}
-use Rattle.snap_top.specs.Scrubbed.{EndsScrubbed, ScrubsEnd, events_scrubbed}
+use Rattle.snap_top.specs.Scrubbed.{EndsScrubbed, events_scrubbed}
+use Rattle.snap_top.specs.AsAsked.{ScrubsEnd}
 use Rattle.snap_top.specs.Scrubbing.{ScrubEnds, ScrubsBy, scrub_of}
-use Rattle.snap_top.specs.Task.{Did, Left, Task, WorksOnArray, may_stand, stands_after}
+use Rattle.snap_top.specs.Task.{Left, Task}
+use Rattle.snap_top.specs.Did.{Did}
 use Rattle.snap_top.specs.Views.{World, world_of}
 use Rattle.snap_top.specs.declared.end.End.{End}
 use Rattle.snap_top.specs.declared.end.Ending.TheVariants.{Answered}
@@ -46,7 +51,7 @@ use Rattle.snap_top.proofs.ScrubUnread.{unread_counted}
 use Rattle.snap_top.proofs.ScrubGiven.{stripes_given}
 
 -- a scrub that did not break off has an answer of an engine that is done
-pub done_by_did : (answer : Answer) (way : ScrubWay) (task : Task) (table : TableValue) (before after : World) (left : Left) (did : Did) → ScrubsBy answer way task table before after left did → has_ended did ≡ true → IsDoneAnswer answer
+pub done_by_did : (answer : Answer) (way : ScrubWay) (task : Task) (table : TableValue) (before after : World) (left : Left) (did : Did) → ScrubsBy answer way task table before after left did → (effect did).has_ended ≡ true → IsDoneAnswer answer
 done_by_did answers.Clean way task table before after left did does ended = tt
 done_by_did answers.Found way task table before after left did does ended = tt
 done_by_did answers.OutputFailed way task table before after left did does ended = tt
@@ -54,7 +59,7 @@ done_by_did (answers.Zeroed disk rec) way task table before after left did does 
 done_by_did (answers.Emptied disk) way task table before after left did does ended = absurd does
 done_by_did (answers.Full blocks files) way task table before after left did does ended = absurd does
 done_by_did (answers.Broken (runs.Folder disk)) way task table before after left did does ended = absurd does
-done_by_did (answers.Broken runs.Vault) way task table before after left did does ended = absurd (let clash : false ≡ true = ap has_ended (sym does.course.did_is) ∙ ended in cc)
+done_by_did (answers.Broken runs.Vault) way task table before after left did does ended = absurd (let clash : false ≡ true = ap (λ (did : Did). (effect did).has_ended) (sym does.course.did_is) ∙ ended in cc)
 done_by_did (answers.Broken runs.Memory) way task table before after left did does ended = absurd (only_read did does.did_is ended)
 
 -- nothing counts exactly where there is nothing
@@ -99,11 +104,11 @@ module _ (before : Entry) (exit : Exit) (tells : TellsVault before) (in_time : b
         rose_then n a b c since later = omega (arith, since, later)
 
     moment : MayStandMarked run old exit.after.vault.files
-    moment = subst (λ (did : Did). may_stand did old exit.after.vault.files) ends.course.did_is ((ran.changes tells.tells).reads tells.tells_vault)
+    moment = subst (λ (did : Did). (effect did).may_stand old exit.after.vault.files) ends.course.did_is ((ran.changes tells.tells).reads tells.tells_vault)
 
     saved : run.readings ≢ [] → Holds (HasSaved (copies_of before.opener.vault) (spelling (marked_table run))) exit.after.vault
-    saved some = holds_on (λ (files : Files). stands_after ran.did old files) (HasSaved (copies_of before.opener.vault) (spelling (marked_table run))) exit.after.vault
-        (λ files stands. subst (λ (n : ℕ). HasSaved n (spelling (marked_table run)) files) is_scrub.over.copies_are (subst (λ (did : Did). stands_after did old files) ends.course.did_is stands some))
+    saved some = holds_on (λ (files : Files). (effect ran.did).stands_after old files) (HasSaved (copies_of before.opener.vault) (spelling (marked_table run))) exit.after.vault
+        (λ files stands. subst (λ (n : ℕ). HasSaved n (spelling (marked_table run)) files) is_scrub.over.copies_are (subst (λ (did : Did). (effect did).stands_after old files) ends.course.did_is stands some))
         (ran.ends tells.tells tells.tells_vault)
 
     start_out : one.start.out ≡ before.out

@@ -14,8 +14,8 @@ use Rattle.stripe_examiner.specs.Facts.{StripeFacts, damaged_at}
 use Rattle.repair_scope.specs.Plan.{FixPlan, cell_at, selects_cell}
 use Rattle.stripe_examiner.specs.Showing.{known_block}
 use Rattle.snap_top.specs.Fix.{FixRun, MayStandFixed}
-use Rattle.snap_top.specs.Moment.{IsFixOf}
-use Rattle.snap_top.specs.Run.{Entry, Exit}
+use Rattle.snap_top.specs.Began.{IsFixOf}
+use Rattle.snap_top.specs.Entry.{Entry, Exit}
 use Rattle.snap_top.specs.Spared.{IsNotMended, SparesCells, SparesLevels}
 use Rattle.snap_top.specs.Stopping.{FolderStandsIn, stop_of}
 use Rattle.snap_top.proofs.KeptLemmas.{made_in}

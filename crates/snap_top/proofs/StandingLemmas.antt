@@ -14,12 +14,13 @@ use Rattle.stripe_findings.specs.Reading.{StripeReading}
 use Rattle.snap_sync.specs.Reading.{ReadsFirst}
 use Rattle.snap_sync.specs.Soundness.{AreSound, StandsOn, changed_without, snapshot_with}
 use Rattle.snap_top.specs.Headline.{HaveOneSize, IsSoundStanding}
-use Rattle.snap_top.specs.History.{AreSoundBy, IsOfBytes, LastSynced, synced_by}
-use Rattle.snap_top.specs.Moment.{IsDidOf, IsSoundAlways, IsSoundIn, IsSupposed}
-use Rattle.snap_top.specs.Resumed.{RunOf}
-use Rattle.snap_top.specs.Run.{Entry, Exit}
-use Rattle.snap_top.specs.Standing.{Change, Configures, Damages, Edits, Follows, GoesOver, HasClosed, IsChanged, IsHistory, IsOrigin, MeetsNoChance, Runs, Stage, Standing, after_of, before_of}
-use Rattle.snap_top.specs.Task.{Did, fixes, may_stand, reads_only, scrubs, syncs}
+use Rattle.snap_top.specs.LastSynced.{AreSoundBy, IsOfBytes, LastSynced, synced_by}
+use Rattle.snap_top.specs.Moment.{IsSoundAlways, IsSoundIn}
+use Rattle.snap_top.specs.Effect.{effect}
+use Rattle.snap_top.specs.RunOf.{RunOf}
+use Rattle.snap_top.specs.Entry.{Entry, Exit}
+use Rattle.snap_top.specs.Standing.{Change, Configures, Damages, Edits, Follows, GoesOver, IsChanged, IsHistory, IsOrigin, Runs, Stage, Standing, after_of, before_of}
+use Rattle.snap_top.specs.Did.{Did, fixes, reads_only, scrubs, syncs}
 use Rattle.snap_top.proofs.HistoryLemmas.{change_sound, stays_of_bytes}
 use Rattle.snap_top.proofs.OfScrubLemmas.{ScrubKeepsValid}
 use Rattle.snap_top.proofs.OneSizeLemmas.{SavesValidTables, changed_size, one_of_size, scrubbed_size, size_begun, synced_size}
@@ -44,8 +45,8 @@ module _ (by_rows : MomentsAreSoundByRows) (one_table : OneTable) (saves_valid :
     old = before.opener.vault.files
 
     -- it is sound by the rows that parity has
-    sound_by : (did : Did) → IsDidOf before exit did → (AreSoundBy copies old last → IsSupposed did copies old last.snapshot → IsSoundIn did copies new last.snapshot last.is_changed)
-        → MeetsNoChance did last.snapshot → (count : ℕ) → HasClosed did count old new → HaveOneSize copies old → AreSoundBy copies old last → AreSoundBy copies new (synced_by did count last)
+    sound_by : (did : Did) → (effect did).is_of before exit → (AreSoundBy copies old last → (effect did).supposes copies old last.snapshot → IsSoundIn did copies new last.snapshot last.is_changed)
+        → (effect did).meets_no_chance last.snapshot → (count : ℕ) → (effect did).has_closed count old new → HaveOneSize copies old → AreSoundBy copies old last → AreSoundBy copies new (synced_by did count last)
     sound_by reads_only is at genuine count closed one are = (at are tt).sound
     sound_by (syncs failed run) is at genuine count closed one are =
         let over = is.over in
@@ -57,7 +58,7 @@ module _ (by_rows : MomentsAreSoundByRows) (one_table : OneTable) (saves_valid :
     sound_by (scrubs failed run) is at genuine count closed one are = (at are tt).sound
 
     -- and of one size
-    size_by : (did : Did) → IsDidOf before exit did → may_stand did old new → (count : ℕ) → HasClosed did count old new → HaveOneSize copies old → HaveOneSize copies new
+    size_by : (did : Did) → (effect did).is_of before exit → (effect did).may_stand old new → (count : ℕ) → (effect did).has_closed count old new → HaveOneSize copies old → HaveOneSize copies new
     size_by reads_only is moment count closed one = subst (HaveOneSize copies) (sym moment) one
     size_by (syncs failed run) is moment count closed one =
         one_of_size run.loaded.shape.block_size copies new
@@ -84,7 +85,7 @@ module _ (by_rows : MomentsAreSoundByRows) (one_table : OneTable) (saves_valid :
         = subst (λ (k : ℕ). AreSoundBy k was standing.last) (sym over.copies) (subst (λ (fs : Files). AreSoundBy standing.copies fs standing.last) (sym over.files) sound.sound) in
         let one : HaveOneSize n was
         = subst (λ (k : ℕ). HaveOneSize k was) (sym over.copies) (subst (λ (fs : Files). HaveOneSize standing.copies fs) (sym over.files) sound.one_size) in
-        let closed : HasClosed always.did goes.count was next.files = subst (λ (fs : Files). HasClosed always.did goes.count fs next.files) (sym over.files) goes.closed in
+        let closed : (effect always.did).has_closed goes.count was next.files = subst (λ (fs : Files). (effect always.did).has_closed goes.count fs next.files) (sym over.files) goes.closed in
         let copies_are : n ≡ next.copies = over.copies ∙ sym (ap (λ (s : Standing). s.copies) goes.array) in
         let after : AreSoundBy n next.files (synced_by always.did goes.count standing.last)
         = sound_by before exit next.files standing.last always.did always.is_did (λ sound_then supposed. always.sound next.files standing.last.snapshot standing.last.is_changed goes.files sound_then supposed)

@@ -20,16 +20,20 @@ use Rattle.snap_sync.specs.Part.{AllTell}
 use Rattle.snap_top.specs.Does.{DoesCommand}
 use Rattle.snap_top.specs.Dup.{dup_text}
 use Rattle.snap_top.specs.End.{ending_status, status_of}
-use Rattle.snap_top.specs.Ended.{has_ended}
+use Rattle.snap_top.specs.Effect.{effect}
 use Rattle.snap_top.specs.Fixing.{FixEnds, FixesBy}
-use Rattle.snap_top.specs.Moment.{EndsSound, HoldsFresh, IsSoundAlways, IsSoundAtEnd, StandsIn, SyncsToItsEnd, TellsAll, TellsVault}
-use Rattle.snap_top.specs.Naming.{ChecksEnd}
-use Rattle.snap_top.specs.Opening.{asked_by}
-use Rattle.snap_top.specs.Run.{Entry, Exit, IsAnswered, IsRun, Ran}
+use Rattle.snap_top.specs.Moment.{IsSoundAlways, SyncsToItsEnd}
+use Rattle.snap_top.specs.SoundAtEnd.{IsSoundAtEnd}
+use Rattle.snap_top.specs.Stands.{HoldsFresh, StandsIn, TellsAll, TellsVault}
+use Rattle.snap_top.specs.AsAsked.{ChecksEnd}
+use Rattle.snap_top.specs.Asked.{asked_by}
+use Rattle.snap_top.specs.Run.{IsAnswered, IsRun, Ran}
+use Rattle.snap_top.specs.Entry.{Entry, Exit}
 use Rattle.snap_top.specs.Scrubbing.{ScrubEnds, ScrubsBy}
-use Rattle.snap_top.specs.Step.{ChangesFiles, EndsBy, EveryRunSteps, RunStep}
+use Rattle.snap_top.specs.Step.{ChangesFiles, EveryRunSteps, RunStep}
 use Rattle.snap_top.specs.Syncing.{SyncEnds, SyncsBy}
-use Rattle.snap_top.specs.Task.{Did, Left, Task, folders_after, reads_only}
+use Rattle.snap_top.specs.Task.{Left, Task}
+use Rattle.snap_top.specs.Did.{Did, reads_only}
 use Rattle.snap_top.specs.Views.{World, world_of}
 use Rattle.snap_top.specs.declared.end.End.{End}
 use Rattle.snap_top.specs.declared.end.End.TheVariants.{Exercised, Refused, Worked}
@@ -121,7 +125,7 @@ module _ (says : BelowSays) (before : Entry) (exit : Exit) (fresh : HoldsFresh b
     abbrev DoesSo : Command → Type 0
     DoesSo command = DoesCommand command ran.task one.table one.start (world_of exit.after) left ran.did
 
-    synced_of : (way : SyncWay) → ran.task.command ≡ commands.Sync way → IsDoneAnswer answer → (has_ended ran.did ≡ true) × EndsBy ran.did before exit status
+    synced_of : (way : SyncWay) → ran.task.command ≡ commands.Sync way → IsDoneAnswer answer → ((effect ran.did).has_ended ≡ true) × (effect ran.did).ends before exit status
     synced_of way command done =
         let does : SyncsBy answer ran.task way one.table one.start (world_of exit.after) left ran.did = subst DoesSo command one.does in
         let ends : SyncEnds ran.task way one.table one.start (world_of exit.after) left ran.did = ends_by_answer answer ran.task way one.table one.start (world_of exit.after) left ran.did done does in
@@ -138,36 +142,36 @@ module _ (says : BelowSays) (before : Entry) (exit : Exit) (fresh : HoldsFresh b
           status_is = is;
           ends = ends;
         } in (
-          ap has_ended ends.course.did_is,
-          subst (λ (did : Did). EndsBy did before exit status) (sym ends.course.did_is) (λ folders. (
+          ap (λ (did : Did). (effect did).has_ended) ends.course.did_is,
+          subst (λ (did : Did). (effect did).ends before exit status) (sym ends.course.did_is) (λ folders. (
             ended_in_part says.laid says.part says.full says.given says.finds says.found says.keeps before exit (all_told folders) in_time status sync,
             ended_run says.laid says.part says.full says.given says.finds says.found says.keeps before exit (all_told folders) in_time status sync,
           )),
         )
 
-    fixed_of : (selection : Selection) → ran.task.command ≡ commands.Fix selection → IsDoneAnswer answer → (has_ended ran.did ≡ true) × EndsBy ran.did before exit status
+    fixed_of : (selection : Selection) → ran.task.command ≡ commands.Fix selection → IsDoneAnswer answer → ((effect ran.did).has_ended ≡ true) × (effect ran.did).ends before exit status
     fixed_of selection command done =
         let does : FixesBy answer selection ran.task one.table one.start (world_of exit.after) left ran.did = subst DoesSo command one.does in
         let ends : FixEnds selection ran.task one.table one.start (world_of exit.after) left ran.did = fix_ends_by answer selection ran.task one.table one.start (world_of exit.after) left ran.did done does in (
-          ap has_ended ends.course.did_is,
-          subst (λ (did : Did). EndsBy did before exit status) (sym ends.course.did_is) (λ folders. (
+          ap (λ (did : Did). (effect did).has_ended) ends.course.did_is,
+          subst (λ (did : Did). (effect did).ends before exit status) (sym ends.course.did_is) (λ folders. (
             ended_fixed says.restored says.lost says.unknown_lost says.lost_unknown says.known says.genuine before exit (all_told folders) setup answer named told ran left one selection command status is ends,
             ended_fixed_run says.restored says.lost says.unknown_lost says.lost_unknown says.known says.genuine before exit (all_told folders) setup answer named told ran left one selection command status is ends,
           )),
         )
 
-    scrubbed_of : (way : ScrubWay) → ran.task.command ≡ commands.Scrub way → IsDoneAnswer answer → (has_ended ran.did ≡ true) × EndsBy ran.did before exit status
+    scrubbed_of : (way : ScrubWay) → ran.task.command ≡ commands.Scrub way → IsDoneAnswer answer → ((effect ran.did).has_ended ≡ true) × (effect ran.did).ends before exit status
     scrubbed_of way command done =
         let does : ScrubsBy answer way ran.task one.table one.start (world_of exit.after) left ran.did = subst DoesSo command one.does in
         let ends : ScrubEnds way ran.task one.table one.start (world_of exit.after) left ran.did = scrub_ends_by answer way ran.task one.table one.start (world_of exit.after) left ran.did done does in (
-          ap has_ended ends.course.did_is,
-          subst (λ (did : Did). EndsBy did before exit status) (sym ends.course.did_is) (
+          ap (λ (did : Did). (effect did).has_ended) ends.course.did_is,
+          subst (λ (did : Did). (effect did).ends before exit status) (sym ends.course.did_is) (
             ended_scrubbed before exit vault_told in_time setup answer named told ran left one way command status is ends,
             ended_scrubbed_run before exit vault_told in_time setup answer named told ran left one way command status is ends,
           ),
         )
 
-    ends_of : (command : Command) → ran.task.command ≡ command → DoesSo command → has_ended ran.did ≡ true → EndsBy ran.did before exit status
+    ends_of : (command : Command) → ran.task.command ≡ command → DoesSo command → (effect ran.did).has_ended ≡ true → (effect ran.did).ends before exit status
     ends_of commands.List command does ended = absurd (only_read ran.did does.did_is ended)
     ends_of commands.Status command does ended = absurd (only_read ran.did does.did_is ended)
     ends_of commands.Dup command does ended =
@@ -184,7 +188,7 @@ module _ (says : BelowSays) (before : Entry) (exit : Exit) (fresh : HoldsFresh b
         (fixed_of selection command (fix_is_done answer selection ran.task one.table one.start (world_of exit.after) left ran.did does ended)).1
     ends_of (commands.Exercise n) command does ended = absurd does
 
-    done_of : (command : Command) → ran.task.command ≡ command → ChangesFiles command → IsDoneAnswer answer → has_ended ran.did ≡ true
+    done_of : (command : Command) → ran.task.command ≡ command → ChangesFiles command → IsDoneAnswer answer → (effect ran.did).has_ended ≡ true
     done_of commands.List command changes done = absurd changes
     done_of commands.Status command changes done = absurd changes
     done_of commands.Dup command changes done = absurd changes
@@ -197,7 +201,7 @@ module _ (says : BelowSays) (before : Entry) (exit : Exit) (fresh : HoldsFresh b
 
   -- ---- a run that opened its array
 
-  ends_in : (setup : SetupValue) (ending : Ending) (told : List Event) (ran : IsRun before exit setup ending told) → status ≡ ending_status ending → has_ended ran.did ≡ true → EndsBy ran.did before exit status
+  ends_in : (setup : SetupValue) (ending : Ending) (told : List Event) (ran : IsRun before exit setup ending told) → status ≡ ending_status ending → (effect ran.did).has_ended ≡ true → (effect ran.did).ends before exit status
   ends_in setup (NotLoaded fault) told ran is ended = absurd (only_read ran.did ran.goes.0.1 ended)
   ends_in setup NoTable told ran is ended = absurd (only_read ran.did ran.goes.0.1 ended)
   ends_in setup (OtherArray difference content) told ran is ended = absurd (only_read ran.did ran.goes.0.1 ended)
@@ -208,7 +212,7 @@ module _ (says : BelowSays) (before : Entry) (exit : Exit) (fresh : HoldsFresh b
   IsDoneEnding _ = ⊥
 
   done_in : (setup : SetupValue) (ending : Ending) (told : List Event) (ran : IsRun before exit setup ending told) → status ≡ ending_status ending
-      → (asked : Options) → asked_by before.texts ≡ Ok asked → ChangesFiles asked.command → IsDoneEnding ending → has_ended ran.did ≡ true
+      → (asked : Options) → asked_by before.texts ≡ Ok asked → ChangesFiles asked.command → IsDoneEnding ending → (effect ran.did).has_ended ≡ true
   done_in setup (NotLoaded fault) told ran is asked words changes done = absurd done
   done_in setup NoTable told ran is asked words changes done = absurd done
   done_in setup (OtherArray difference content) told ran is asked words changes done = absurd done
@@ -247,24 +251,24 @@ module _ (says : BelowSays) (before : Entry) (exit : Exit) (fresh : HoldsFresh b
   step_by (Worked setup ending) told is ran synced checked =
       let how : (ran.did ≡ reads_only) ⊎ (HasSync before exit ran.did ⊎ (HasFix before exit ran.did ⊎ HasScrub before exit ran.did))
       = run_did before exit fresh.tells fresh.tells_vault says.keeps in_time (setup_value setup) ending told ran in
-      let ends : EndsSound ran.did before exit status
+      let ends : (effect ran.did).sound_at_end before exit status
       = ends_sound says.keeps says.one_table says.moments says.finds before exit fresh.tells fresh.tells_vault in_time status (setup_value setup) ending told ran is in
       let always : IsSoundAlways before exit status
       = sound_run before exit status fresh synced says.laid says.of_parts says.moments says.keeps_sound says.one_table says.marks_valid says.marks_sound ran.did ends (ran.changes fresh.tells) how in
       let same : always.did ≡ ran.did
       = run_did_is before exit status fresh synced says.laid says.of_parts says.moments says.keeps_sound says.one_table says.marks_valid says.marks_sound ran.did ends (ran.changes fresh.tells) how in
-      let kept : folders_after always.did before.opener.folders exit.after.folders
-      = subst (λ (did : Did). folders_after did before.opener.folders exit.after.folders) (sym same)
-      (subst (λ (olds : List FolderView). folders_after ran.did olds exit.after.folders) (given_folders before exit fresh.tells fresh.tells_vault (setup_value setup) ending told ran) ran.keeps.folders) in
+      let kept : (effect always.did).folders_after before.opener.folders exit.after.folders
+      = subst (λ (did : Did). (effect did).folders_after before.opener.folders exit.after.folders) (sym same)
+      (subst (λ (olds : List FolderView). (effect ran.did).folders_after olds exit.after.folders) (given_folders before exit fresh.tells fresh.tells_vault (setup_value setup) ending told ran) ran.keeps.folders) in
       record {
         always = always;
         folders = λ has. kept;
         stops = λ has. each_tree_stays always.did before exit kept;
         unopened = λ none. absurd (let clash : true ≡ false = sym ran.has_vault ∙ none in cc);
         refused = λ refused. same ∙ (ending_untouched ending ran.task ran.given (world_of exit.after) told ran.did ran.goes (subst (λ (n : ℕ). (n ≡ 2) ⊎ (n ≡ 5)) is refused)).did_is;
-        done = λ asked words changes well. ap has_ended same
+        done = λ asked words changes well. ap (λ (did : Did). (effect did).has_ended) same
             ∙ done_in (setup_value setup) ending told ran is asked words changes (done_ending ending (done_end before exit (Worked setup ending) told status fresh.tells is ran well));
-        at_end = λ ended. subst (λ (did : Did). EndsBy did before exit status) (sym same) (ends_in (setup_value setup) ending told ran is (sym (ap has_ended same) ∙ ended));
+        at_end = λ ended. subst (λ (did : Did). (effect did).ends before exit status) (sym same) (ends_in (setup_value setup) ending told ran is (sym (ap (λ (did : Did). (effect did).has_ended) same) ∙ ended));
         checked = checked;
       }
     where

@@ -21,8 +21,8 @@ use Rattle.stripe_examiner.specs.Place.{starts_of}
 use Rattle.file_restorer.specs.State.{AnyCall, FolderMakes}
 use Rattle.snap_fix.specs.Stopped.{FixStop, IsCellSpared, IsNoneOf, IsStop, StandInPlace, StandsInCell, StandsSpared, file_placed, path_at, records_of}
 use Rattle.snap_top.specs.Fix.{FixRun, IsRunCall}
-use Rattle.snap_top.specs.Moment.{IsFixOf}
-use Rattle.snap_top.specs.Run.{Entry, Exit}
+use Rattle.snap_top.specs.Began.{IsFixOf}
+use Rattle.snap_top.specs.Entry.{Entry, Exit}
 use Rattle.snap_top.specs.Stopping.{FindsNoLess, FolderStandsIn, MayStandLeft, SparesFiles, stop_of}
 use Rattle.snap_top.specs.Undamaged.{HasEnough, undamaged_levels, was_read}
 use Rattle.snap_top.specs.Views.{calls_since, folder_at}

@@ -27,12 +27,19 @@ use Rattle.snap_sync.specs.Soundness.{AreSound, changed_without, snapshot_with}
 use Rattle.snap_sync.specs.declared.syncing.SyncEnd.{SyncEnd}
 use Rattle.snap_top.specs.Does.{DoesCommand}
 use Rattle.snap_top.specs.End.{status_of}
-use Rattle.snap_top.specs.Ended.{IsEndStatus, has_ended}
-use Rattle.snap_top.specs.Moment.{IsSoundAtEnd, IsSyncOf, StandsAfter, SyncsToItsEnd}
-use Rattle.snap_top.specs.Opening.{asked_by}
-use Rattle.snap_top.specs.Run.{Entry, Exit, IsAnswered, IsRun, Ran}
+use Rattle.snap_top.specs.Effect.{effect}
+use Rattle.snap_top.specs.Output.{IsEndStatus}
+use Rattle.snap_top.specs.Moment.{SyncsToItsEnd}
+use Rattle.snap_top.specs.SoundAtEnd.{IsSoundAtEnd}
+use Rattle.snap_top.specs.Began.{IsSyncOf}
+use Rattle.snap_top.specs.Stands.{StandsAfter}
+use Rattle.snap_top.specs.Asked.{asked_by, WorksOnArray}
+use Rattle.snap_top.specs.Run.{IsAnswered, IsRun, Ran}
+use Rattle.snap_top.specs.Entry.{Entry, Exit}
 use Rattle.snap_top.specs.Syncing.{SyncEnds, SyncsBy, run_of}
-use Rattle.snap_top.specs.Task.{Task, Did, LeavesSynced, Left, WorksOnArray, end_table, stands_after}
+use Rattle.snap_top.specs.Task.{Task, Left}
+use Rattle.snap_top.specs.Did.{Did}
+use Rattle.snap_top.specs.Sync.{end_table, LeavesSynced}
 use Rattle.snap_top.specs.Views.{World, world_of}
 use Rattle.snap_top.specs.declared.end.End.{End}
 use Rattle.snap_top.specs.declared.end.Ending.TheVariants.{Answered}
@@ -63,7 +70,7 @@ all_read readings ahead pending first many =
 
 -- ---- by what it did
 
-pub done_by_did : (answer : Answer) (task : Task) (way : SyncWay) (table : TableValue) (before after : World) (left : Left) (did : Did) → SyncsBy answer task way table before after left did → has_ended did ≡ true → IsDoneAnswer answer
+pub done_by_did : (answer : Answer) (task : Task) (way : SyncWay) (table : TableValue) (before after : World) (left : Left) (did : Did) → SyncsBy answer task way table before after left did → (effect did).has_ended ≡ true → IsDoneAnswer answer
 done_by_did answers.Clean task way table before after left did does ended = tt
 done_by_did answers.Found task way table before after left did does ended = tt
 done_by_did answers.OutputFailed task way table before after left did does ended = tt
@@ -71,7 +78,7 @@ done_by_did (answers.Zeroed disk rec) task way table before after left did does 
 done_by_did (answers.Emptied disk) task way table before after left did does ended = absurd (only_read did does.did_is ended)
 done_by_did (answers.Full blocks files) task way table before after left did does ended = absurd (only_read did does.did_is ended)
 done_by_did (answers.Broken (runs.Folder disk)) task way table before after left did does ended = absurd (only_read did does.did_is ended)
-done_by_did (answers.Broken runs.Vault) task way table before after left did does ended = absurd (let clash : false ≡ true = ap has_ended (sym does.course.did_is) ∙ ended in cc)
+done_by_did (answers.Broken runs.Vault) task way table before after left did does ended = absurd (let clash : false ≡ true = ap (λ (did : Did). (effect did).has_ended) (sym does.course.did_is) ∙ ended in cc)
 done_by_did (answers.Broken runs.Memory) task way table before after left did does ended = absurd (only_read did does.did_is ended)
 
 -- A run whose sync went to its end.
@@ -147,7 +154,7 @@ module _ (keeps : KeepsItsStripes) (before : Entry) (exit : Exit) (tells : IsTru
   all_of = all_read run.readings run.ahead (pending_stripes run.plan.start.infos) sync.ends.course.reads.stripes sync.ends.all
 
   pub stands : Holds (LeavesSynced run old) exit.after.vault
-  stands = subst (λ (did : Did). Holds (stands_after did old) exit.after.vault) sync.ends.course.did_is (sync.ran.ends tells tells_vault)
+  stands = subst (λ (did : Did). Holds ((effect did).stands_after old) exit.after.vault) sync.ends.course.did_is (sync.ran.ends tells tells_vault)
 
   pub still_tells : IsTrue exit.after.vault.tells
   still_tells = sync.ran.keeps.vault.goes_on.tells ∙ ap (λ (s : VaultState). s.tells) (given_is before exit tells tells_vault sync.setup (Answered sync.answer sync.named) sync.told sync.ran) ∙ tells_vault

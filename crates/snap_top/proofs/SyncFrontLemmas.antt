@@ -18,11 +18,13 @@ use Rattle.snap_sync.specs.Closing.{verified_in}
 use Rattle.snap_sync.specs.Part.{AllTell, IsToldRun, NoneRose, SyncRun, layout_by, reading_by, readings_by, run_trees, trees_of}
 use Rattle.stripe_findings.specs.Findings.{events_of, stripe_events}
 use Rattle.stripe_findings.specs.Reading.{StripeReading, stripes_of}
-use Rattle.snap_top.specs.Alike.{HoldAlike, NothingRose}
+use Rattle.snap_top.specs.Alike.{HoldAlike}
+use Rattle.snap_top.specs.Unbroken.{NothingRose}
 use Rattle.snap_top.specs.BrokeOff.{BrokeOff, PrintsFront, RoseOnce, RoseOnceBy, SyncBrokeOff}
 use Rattle.snap_top.specs.LeftAlike.{AskSame}
-use Rattle.snap_top.specs.Moment.{EndsInPart}
-use Rattle.snap_top.specs.Run.{Entry, Exit, IsAnswered}
+use Rattle.snap_top.specs.InPart.{EndsInPart}
+use Rattle.snap_top.specs.Run.{IsAnswered}
+use Rattle.snap_top.specs.Entry.{Entry, Exit}
 use Rattle.snap_top.specs.Syncing.{SyncBreaks, run_of}
 use Rattle.snap_top.specs.Views.{world_of}
 use Rattle.snap_top.proofs.AskedLemmas.{command_asked, one_setup, same_loaded, unfailed}

@@ -47,8 +47,10 @@ use Rattle.snap_sync.specs.declared.fault.SyncFault.TheVariants.{Scan, Run}
 use Rattle.snap_sync.specs.declared.syncing.SyncEnd.{SyncEnd}
 use Rattle.snap_top.specs.Does.{DoesCommand, IsDone}
 use Rattle.snap_top.specs.Syncing.{plan_for, run_of, answer_of, named_of, SyncEnds, SyncRefuses, SyncsBy}
-use Rattle.snap_top.specs.Task.{Task, Did, reads_only, syncs, LeavesSynced, end_table, Left}
-use Rattle.snap_top.specs.Views.{World, WorldView, world_view, world_of, view_of, outside_of, folder_at}
+use Rattle.snap_top.specs.Task.{Task, Left, outside_of}
+use Rattle.snap_top.specs.Did.{Did, reads_only, syncs}
+use Rattle.snap_top.specs.Sync.{end_table, LeavesSynced}
+use Rattle.snap_top.specs.Views.{World, WorldView, world_view, world_of, view_of, folder_at}
 use Rattle.snap_top.proofs.DoneLemmas.{by_output, nothing_more}
 use Rattle.snap_top.proofs.FolderLemmas.{all_listed, stripes_read, begun_not}
 use Rattle.snap_top.proofs.ViewsLemmas.{some_calls_of, sink_stays, all_read_then}

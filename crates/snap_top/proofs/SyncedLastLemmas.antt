@@ -21,8 +21,7 @@ use Rattle.snap_sync.specs.Closing.{closed, rows_of, rows_with}
 use Rattle.snap_sync.specs.Images.{StandsBy, rows_after}
 use Rattle.snap_sync.specs.Part.{IsToldRun, SyncRun, layout_by, run_table, run_trees, run_verified}
 use Rattle.stripe_findings.specs.Reading.{StripeReading, is_verified, row_of, stripes_of}
-use Rattle.snap_top.specs.Sync.{BeginsAmong, SyncsOver}
-use Rattle.snap_top.specs.Task.{end_table}
+use Rattle.snap_top.specs.Sync.{BeginsAmong, SyncsOver, end_table}
 use Rattle.snap_top.proofs.KeptLemmas.{kept_in, made_in}
 use Rattle.snap_top.proofs.MomentLemmas.{LayoutIsOfTrees}
 use Rattle.snap_top.proofs.OneSizeLemmas.{SavesValidTables}

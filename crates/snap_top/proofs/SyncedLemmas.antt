@@ -32,8 +32,7 @@ use Rattle.snap_sync.specs.Part.{SyncRun}
 use Rattle.stripe_findings.specs.Reading.{StripeReading, is_verified, row_of, stripes_of}
 use Rattle.snap_sync.specs.Reading.{ReadsFirst}
 use Rattle.snap_sync.specs.Soundness.{AreSound, AreSoundAfter, StandsOn, changed_without, in_front, snapshot_with}
-use Rattle.snap_top.specs.Sync.{SyncsOver}
-use Rattle.snap_top.specs.Task.{LeavesSynced}
+use Rattle.snap_top.specs.Sync.{SyncsOver, LeavesSynced}
 use Rattle.parity_writer.specs.Closing.{changed_behind}
 use Rattle.snap_top.proofs.UnchangedLemmas.{behind_unchanged}
 

@@ -36,9 +36,9 @@ use Rattle.snap_top.specs.Alike.{HoldAlike, SeenAlike, seen_by}
 use Rattle.snap_top.specs.Fix.{FixRun}
 use Rattle.snap_top.specs.FixedAlike.{FixesAlike, HaveSameBytes, HaveSameFiles, KeepStampsAlike, bytes_in}
 use Rattle.snap_top.specs.LeftAlike.{PrintAlike}
-use Rattle.snap_top.specs.Moment.{TellsAll}
+use Rattle.snap_top.specs.Stands.{TellsAll}
 use Rattle.snap_top.specs.Restoring.{EndsFixed, events_in}
-use Rattle.snap_top.specs.Run.{Entry, Exit}
+use Rattle.snap_top.specs.Entry.{Entry, Exit}
 use Rattle.snap_top.proofs.AskedLemmas.{same_status}
 use Rattle.snap_top.proofs.FinishedByLemmas.{all_news_same, bytes_last, last_same, tells_mid}
 use Rattle.snap_top.proofs.HeldLemmas.{tells_then, tree_then}

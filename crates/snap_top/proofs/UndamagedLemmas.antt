@@ -29,9 +29,9 @@ use Rattle.snap_fix.specs.Mended.{has_lost}
 use Rattle.repair_scope.specs.Plan.{FixPlan, is_audit, is_searched, is_synced}
 use Rattle.snap_fix.specs.Restored.{HoldsCell}
 use Rattle.snap_top.specs.Fix.{FixRun}
-use Rattle.snap_top.specs.Moment.{IsFixOf}
+use Rattle.snap_top.specs.Began.{IsFixOf}
 use Rattle.snap_top.specs.Restoring.{Restores}
-use Rattle.snap_top.specs.Run.{Entry, Exit}
+use Rattle.snap_top.specs.Entry.{Entry, Exit}
 use Rattle.snap_top.specs.Undamaged.{IsRecoverable, IsUndamaged, is_read, was_read}
 use Rattle.snap_top.proofs.OfFixLemmas.{levels_in}
 use Rattle.snap_top.specs.Views.{folder_at}

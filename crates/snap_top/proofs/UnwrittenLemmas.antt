@@ -22,11 +22,14 @@ use Rattle.snap_top.specs.Checking.{ChecksBy}
 use Rattle.snap_top.specs.Does.{DoesCommand}
 use Rattle.snap_top.specs.End.{status_of, ending_status}
 use Rattle.snap_top.specs.Levels.{by_parts, is_split}
-use Rattle.snap_top.specs.Opening.{asked_by}
-use Rattle.snap_top.specs.Run.{Entry, Exit, Goes, IsRun, Ran, entry_by, exit_by, setup_of}
+use Rattle.snap_top.specs.Asked.{asked_by}
+use Rattle.snap_top.specs.Run.{Goes, IsRun, Ran, setup_of}
+use Rattle.snap_top.specs.Entry.{Entry, entry_by, Exit, exit_by}
 use Rattle.snap_top.specs.Scrubbing.{ScrubsBy}
 use Rattle.snap_top.specs.Syncing.{SyncsBy}
-use Rattle.snap_top.specs.Task.{Task, Did, reads_only, syncs, fixes, scrubs, has_fixed, folders_after, vault_after, Left}
+use Rattle.snap_top.specs.Task.{Task, Left}
+use Rattle.snap_top.specs.Effect.{effect}
+use Rattle.snap_top.specs.Did.{Did, fixes, reads_only, scrubs, syncs}
 use Rattle.snap_top.specs.Unwritten.{writes_array, writes_files, VaultIsUnwritten, FoldersAreUnwritten, HeldAreUnwritten, WritesAsAsked}
 use Rattle.snap_top.specs.Views.{World, world_of, AllReadOnly}
 use Rattle.snap_top.specs.declared.end.End.{End}
@@ -61,36 +64,36 @@ command_reads (commands.Fix selection) task table start after left did does none
 command_reads (commands.Scrub way) task table start after left did does none = absurd (let clash : true ≡ false = none in cc)
 command_reads (commands.Exercise n) task table start after left did does none = absurd does
 
-sync_fixes : (answer : Answer) (task : Task) (way : SyncWay) (table : TableValue) (start after : World) (left : Left) (did : Did) → SyncsBy answer task way table start after left did → has_fixed did ≡ false
-sync_fixes Clean task way table start after left did does = ap has_fixed does.course.did_is
-sync_fixes Found task way table start after left did does = ap has_fixed does.course.did_is
-sync_fixes OutputFailed task way table start after left did does = ap has_fixed does.course.did_is
-sync_fixes (Zeroed disk rec) task way table start after left did does = ap has_fixed does.did_is
-sync_fixes (Emptied disk) task way table start after left did does = ap has_fixed does.did_is
-sync_fixes (Full blocks files) task way table start after left did does = ap has_fixed does.did_is
-sync_fixes (Broken (Folder disk)) task way table start after left did does = ap has_fixed does.did_is
-sync_fixes (Broken Vault) task way table start after left did does = ap has_fixed does.course.did_is
-sync_fixes (Broken Memory) task way table start after left did does = ap has_fixed does.did_is
+sync_fixes : (answer : Answer) (task : Task) (way : SyncWay) (table : TableValue) (start after : World) (left : Left) (did : Did) → SyncsBy answer task way table start after left did → (effect did).writes_files ≡ false
+sync_fixes Clean task way table start after left did does = ap (λ (did : Did). (effect did).writes_files) does.course.did_is
+sync_fixes Found task way table start after left did does = ap (λ (did : Did). (effect did).writes_files) does.course.did_is
+sync_fixes OutputFailed task way table start after left did does = ap (λ (did : Did). (effect did).writes_files) does.course.did_is
+sync_fixes (Zeroed disk rec) task way table start after left did does = ap (λ (did : Did). (effect did).writes_files) does.did_is
+sync_fixes (Emptied disk) task way table start after left did does = ap (λ (did : Did). (effect did).writes_files) does.did_is
+sync_fixes (Full blocks files) task way table start after left did does = ap (λ (did : Did). (effect did).writes_files) does.did_is
+sync_fixes (Broken (Folder disk)) task way table start after left did does = ap (λ (did : Did). (effect did).writes_files) does.did_is
+sync_fixes (Broken Vault) task way table start after left did does = ap (λ (did : Did). (effect did).writes_files) does.course.did_is
+sync_fixes (Broken Memory) task way table start after left did does = ap (λ (did : Did). (effect did).writes_files) does.did_is
 
-scrub_fixes : (answer : Answer) (way : ScrubWay) (task : Task) (table : TableValue) (start after : World) (left : Left) (did : Did) → ScrubsBy answer way task table start after left did → has_fixed did ≡ false
-scrub_fixes Clean way task table start after left did does = ap has_fixed does.course.did_is
-scrub_fixes Found way task table start after left did does = ap has_fixed does.course.did_is
-scrub_fixes OutputFailed way task table start after left did does = ap has_fixed does.course.did_is
+scrub_fixes : (answer : Answer) (way : ScrubWay) (task : Task) (table : TableValue) (start after : World) (left : Left) (did : Did) → ScrubsBy answer way task table start after left did → (effect did).writes_files ≡ false
+scrub_fixes Clean way task table start after left did does = ap (λ (did : Did). (effect did).writes_files) does.course.did_is
+scrub_fixes Found way task table start after left did does = ap (λ (did : Did). (effect did).writes_files) does.course.did_is
+scrub_fixes OutputFailed way task table start after left did does = ap (λ (did : Did). (effect did).writes_files) does.course.did_is
 scrub_fixes (Zeroed disk rec) way task table start after left did does = absurd does
 scrub_fixes (Emptied disk) way task table start after left did does = absurd does
 scrub_fixes (Full blocks files) way task table start after left did does = absurd does
 scrub_fixes (Broken (Folder disk)) way task table start after left did does = absurd does
-scrub_fixes (Broken Vault) way task table start after left did does = ap has_fixed does.course.did_is
-scrub_fixes (Broken Memory) way task table start after left did does = ap has_fixed does.did_is
+scrub_fixes (Broken Vault) way task table start after left did does = ap (λ (did : Did). (effect did).writes_files) does.course.did_is
+scrub_fixes (Broken Memory) way task table start after left did does = ap (λ (did : Did). (effect did).writes_files) does.did_is
 
-command_fixes : (command : Command) (task : Task) (table : TableValue) (start after : World) (left : Left) (did : Did) → DoesCommand command task table start after left did → writes_files command ≡ false → has_fixed did ≡ false
-command_fixes commands.List task table start after left did does none = ap has_fixed does.did_is
-command_fixes commands.Status task table start after left did does none = ap has_fixed does.did_is
-command_fixes commands.Dup task table start after left did (inl alone) none = ap has_fixed alone.did_is
-command_fixes commands.Dup task table start after left did (inr idle) none = ap has_fixed idle.did_is
+command_fixes : (command : Command) (task : Task) (table : TableValue) (start after : World) (left : Left) (did : Did) → DoesCommand command task table start after left did → writes_files command ≡ false → (effect did).writes_files ≡ false
+command_fixes commands.List task table start after left did does none = ap (λ (did : Did). (effect did).writes_files) does.did_is
+command_fixes commands.Status task table start after left did does none = ap (λ (did : Did). (effect did).writes_files) does.did_is
+command_fixes commands.Dup task table start after left did (inl alone) none = ap (λ (did : Did). (effect did).writes_files) alone.did_is
+command_fixes commands.Dup task table start after left did (inr idle) none = ap (λ (did : Did). (effect did).writes_files) idle.did_is
 command_fixes (commands.Sync way) task table start after left did does none = sync_fixes left.answer task way table start after left did does
-command_fixes (commands.Check selection) task table start after left did does none = ap has_fixed (check_reads left.answer modes.Check selection task table start after left did does)
-command_fixes (commands.Audit selection) task table start after left did does none = ap has_fixed (check_reads left.answer modes.Audit selection task table start after left did does)
+command_fixes (commands.Check selection) task table start after left did does none = ap (λ (did : Did). (effect did).writes_files) (check_reads left.answer modes.Check selection task table start after left did does)
+command_fixes (commands.Audit selection) task table start after left did does none = ap (λ (did : Did). (effect did).writes_files) (check_reads left.answer modes.Audit selection task table start after left did does)
 command_fixes (commands.Fix selection) task table start after left did does none = absurd (let clash : true ≡ false = none in cc)
 command_fixes (commands.Scrub way) task table start after left did does none = scrub_fixes left.answer way task table start after left did does
 command_fixes (commands.Exercise n) task table start after left did does none = absurd does
@@ -103,13 +106,13 @@ ending_reads NoTable task given after told did goes none = goes.0.1
 ending_reads (OtherArray difference content) task given after told did goes none = goes.0.1
 ending_reads (Answered answer named) task given after told did goes none = let one = goes.1 in command_reads task.command task one.table one.start after _ did one.does none
 
-ending_fixes : (ending : Ending) (task : Task) (given after : World) (told : List Event) (did : Did) → Goes task given after ending told did → writes_files task.command ≡ false → has_fixed did ≡ false
-ending_fixes (NotLoaded fault) task given after told did goes none = ap has_fixed goes.0.1
-ending_fixes NoTable task given after told did goes none = ap has_fixed goes.0.1
-ending_fixes (OtherArray difference content) task given after told did goes none = ap has_fixed goes.0.1
+ending_fixes : (ending : Ending) (task : Task) (given after : World) (told : List Event) (did : Did) → Goes task given after ending told did → writes_files task.command ≡ false → (effect did).writes_files ≡ false
+ending_fixes (NotLoaded fault) task given after told did goes none = ap (λ (did : Did). (effect did).writes_files) goes.0.1
+ending_fixes NoTable task given after told did goes none = ap (λ (did : Did). (effect did).writes_files) goes.0.1
+ending_fixes (OtherArray difference content) task given after told did goes none = ap (λ (did : Did). (effect did).writes_files) goes.0.1
 ending_fixes (Answered answer named) task given after told did goes none = let one = goes.1 in command_fixes task.command task one.table one.start after _ did one.does none
 
-folders_read : (did : Did) (olds news : List FolderView) → has_fixed did ≡ false → folders_after did olds news → AllReadOnly olds news
+folders_read : (did : Did) (olds news : List FolderView) → (effect did).writes_files ≡ false → (effect did).folders_after olds news → AllReadOnly olds news
 folders_read reads_only olds news none reads = reads
 folders_read (syncs failed run) olds news none reads = reads
 folders_read (fixes failed run) olds news none reads = absurd (let clash : true ≡ false = none in cc)
@@ -124,9 +127,9 @@ module _ (before : Entry) (exit : Exit) (setup : SetupValue) (ending : Ending) (
   vault_unwritten : ran.did ≡ reads_only → VaultIsUnwritten before exit
   vault_unwritten is =
       count_by_parts (is_split setup.parts) setup.parts setup.split before.opener.vault exit.after.vault
-      (subst (λ (did : Did). vault_after did ran.given.vault (world_of (exit_by (Some setup) exit).after).vault) is ran.keeps.writes ∙ ran.is_given.state.writes)
+      (subst (λ (did : Did). (effect did).vault_after ran.given.vault (world_of (exit_by (Some setup) exit).after).vault) is ran.keeps.writes ∙ ran.is_given.state.writes)
 
-  folders_unwritten : has_fixed ran.did ≡ false → FoldersAreUnwritten before exit
+  folders_unwritten : (effect ran.did).writes_files ≡ false → FoldersAreUnwritten before exit
   folders_unwritten none d below =
       let read = folders_read ran.did ran.given.folders exit.after.folders none ran.keeps.folders in
       let within : d < length ran.given.folders = let count = read.count in omega (arith, below, count) in
@@ -144,7 +147,7 @@ module _ (before : Entry) (exit : Exit) (setup : SetupValue) (ending : Ending) (
     folders = λ asked words none. folders_unwritten (ending_fixes ending ran.task ran.given (world_of (exit_by (Some setup) exit).after) told ran.did ran.goes (ap writes_files (same_command asked words) ∙ none));
     refused = λ refused.
         let same = ending_untouched ending ran.task ran.given (world_of (exit_by (Some setup) exit).after) told ran.did ran.goes (subst (λ (n : ℕ). (n ≡ 2) ⊎ (n ≡ 5)) is refused) in
-        (vault_unwritten same.did_is, folders_unwritten (ap has_fixed same.did_is));
+        (vault_unwritten same.did_is, folders_unwritten (ap (λ (did : Did). (effect did).writes_files) same.did_is));
     unopened = λ none. absurd (let clash : true ≡ false = sym ran.has_vault ∙ none in cc);
   }
 

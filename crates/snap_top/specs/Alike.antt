@@ -1,13 +1,12 @@
 -- Two checks, or a check and a fix, that read the same of one array, or that find the same array.
 use Rattle.std.specs.Prelude.{◌≡◌, ◌≢◌, ℕ, ◌<◌, length, filter, map, Ok}
-use Rattle.disk_model.specs.Cause.{Rose}
 use Rattle.disk_model.specs.Vault.{copies_of}
 use Rattle.snap_config.specs.declared.options.Options.{Options}
 use Rattle.array_setup.specs.declared.ways.Selection.{Selection}
 use Rattle.snap_fix.specs.Ending.{Finishes}
 use Rattle.snap_fix.specs.Fixing.{facts_of}
 use Rattle.snap_report.specs.Kind.{is_finding}
-use Rattle.snap_sync.specs.Part.{NoneRose, trees_of}
+use Rattle.snap_sync.specs.Part.{trees_of}
 use Rattle.stripe_examiner.specs.Facts.{StripeFacts, slot_of}
 use Rattle.stripe_examiner.specs.Looking.{facts_at}
 use Rattle.repair_scope.specs.Plan.{names_of}
@@ -15,11 +14,12 @@ use Rattle.repair_scope.specs.declared.scope.Mode.{Mode}
 use Rattle.stripe_reader.specs.SlotValue.{SlotValue}
 use Rattle.snap_top.specs.Check.{CheckRun}
 use Rattle.snap_top.specs.Fix.{FixRun}
-use Rattle.snap_top.specs.Moment.{TellsAll}
-use Rattle.snap_top.specs.Naming.{command_in, events_found}
-use Rattle.snap_top.specs.Opening.{asked_by}
+use Rattle.snap_top.specs.Stands.{TellsAll}
+use Rattle.snap_top.specs.Naming.{events_found}
+use Rattle.snap_top.specs.Began.{command_in}
+use Rattle.snap_top.specs.Asked.{asked_by}
 use Rattle.snap_top.specs.Restoring.{events_in}
-use Rattle.snap_top.specs.Run.{Entry, Exit}
+use Rattle.snap_top.specs.Entry.{Entry}
 use Rattle.snap_top.specs.Sync.{HasNoCopy}
 
 -- what a fix has seen, said as of a check
@@ -105,11 +105,6 @@ pub record AskAlike (mode mode_then : Mode) (one other : Entry) : Type 0 where
   pub command_is : asked.command ≡ command_in mode selection
   pub command_then : asked_then.command ≡ command_in mode_then selection
   pub log : asked.log ≡ asked_then.log
-
--- the count of faults of no folder rose, and not that of the vault
-pub record NothingRose (before : Entry) (exit : Exit) : Type 0 where
-  pub folders : NoneRose before.opener.folders exit.after.folders
-  pub vault : ¬ (Rose before.opener.vault.faults exit.after.vault.faults)
 
 -- so two checks or audits have the same lines and, where the output of neither failed, the same status
 pub record CheckAlike (one other : CheckRun) (status status_then : ℕ) : Type 0 where

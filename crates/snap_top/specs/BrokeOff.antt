@@ -21,10 +21,12 @@ use Rattle.snap_top.specs.Alike.{seen_by}
 use Rattle.snap_top.specs.Check.{CheckRun}
 use Rattle.snap_top.specs.Fixing.{FixBroke, fix_of}
 use Rattle.snap_top.specs.LeftAlike.{HasPrinted}
-use Rattle.snap_top.specs.Run.{Entry, Exit, IsAnswered, IsRefused, IsRun}
+use Rattle.snap_top.specs.Run.{IsAnswered, IsRefused, IsRun}
+use Rattle.snap_top.specs.Entry.{Entry, Exit}
 use Rattle.snap_top.specs.Scrubbing.{ScrubBreaks}
 use Rattle.snap_top.specs.Syncing.{SyncBreaks}
-use Rattle.snap_top.specs.Task.{Left, reads_only}
+use Rattle.snap_top.specs.Task.{Left}
+use Rattle.snap_top.specs.Did.{reads_only}
 use Rattle.snap_top.specs.Views.{view_of, world_of}
 use Rattle.snap_top.specs.declared.end.Ending.{Ending}
 use Rattle.snap_top.specs.declared.end.Ending.TheVariants.{Answered}

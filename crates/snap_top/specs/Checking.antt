@@ -25,7 +25,8 @@ use Rattle.snap_report.specs.declared.answer.Answer.{Answer}
 use Rattle.snap_report.specs.declared.answer.Answer.TheVariants as answers
 use Rattle.snap_report.specs.declared.answer.RunFault.{RunFault}
 use Rattle.snap_report.specs.declared.answer.RunFault.TheVariants as runs
-use Rattle.snap_top.specs.Task.{Task, Did, reads_only, Left, Prints}
+use Rattle.snap_top.specs.Task.{Task, Left, Prints}
+use Rattle.snap_top.specs.Did.{Did, reads_only}
 use Rattle.snap_top.specs.Views.{World, view_of}
 
 -- A check that ended: each folder was listed once, and the cells and levels of all stripes with something selected were read. It printed the lines

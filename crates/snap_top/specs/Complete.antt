@@ -2,7 +2,7 @@
 use Rattle.std.specs.Prelude.{◌≡◌, ◌⊎◌, ℕ, ◌<◌, ◌≤◌, List, length, take, true, false, IsTrue, Option, Some, None, Ok}
 use Rattle.array_scan.specs.declared.fault.ScanFault.{ScanFault}
 use Rattle.array_scan.specs.declared.fault.ScanFault.TheVariants as scans
-use Rattle.content_file.specs.Load.{LoadsTable, HasFailed}
+use Rattle.content_file.specs.Load.{LoadsTable}
 use Rattle.content_file.specs.Spelling.{IsContent}
 use Rattle.disk_model.specs.Cause.{Rose}
 use Rattle.disk_model.specs.Files.{Stays, content_of}
@@ -17,15 +17,15 @@ use Rattle.snap_config.specs.declared.options.Command.{Command}
 use Rattle.snap_config.specs.declared.options.Command.TheVariants as commands
 use Rattle.snap_config.specs.declared.options.Options.{Options}
 use Rattle.array_setup.specs.declared.ways.SyncWay.{SyncWay}
-use Rattle.snap_report.specs.Answer.{Gained, broke_folder, broke_vault}
 use Rattle.snap_sync.specs.Beginning.{RefusesLayout}
-use Rattle.snap_sync.specs.Work.{broke_sync}
 use Rattle.snap_top.specs.Array.{Matches}
 use Rattle.snap_top.specs.Exercising.{AsksForExercise}
 use Rattle.snap_top.specs.Known.{unknown_in}
-use Rattle.snap_top.specs.Opening.{asked_by}
-use Rattle.snap_top.specs.Run.{BeginsWith, Entry, Exit, LoadsFrom}
-use Rattle.snap_top.specs.Views.{view_of, folder_at}
+use Rattle.snap_top.specs.Asked.{asked_by}
+use Rattle.snap_top.specs.Loading.{BeginsWith, LoadsFrom}
+use Rattle.snap_top.specs.Entry.{Entry, Exit}
+use Rattle.snap_top.specs.Views.{folder_at}
+use Rattle.snap_top.specs.Unbroken.{held_vault, left_vault, NothingBroke}
 
 -- ---- refusals, and the standard error of a run that is done
 
@@ -45,34 +45,11 @@ IsSilent status err err_new = status ≤ 1 → IsTrue err.tells → err_new.writ
 
 -- ---- completeness
 
--- A folder failed so that a run ends: its count rose and, where it tells its calls, one failed that neither looks nor reads.
-pub record BreaksFolder (old new : FolderView) : Type 0 where
-  pub rose : Rose old.faults new.faults
-  pub call : IsTrue new.tells_calls → Gained broke_folder old.calls new.calls
-
--- each copy that is a content file had a reading that failed
-abbrev pub NoCopyWasRead : VaultView → VaultView → Type 0
-NoCopyWasRead old new = (copy : ℕ) (bytes : List ℕ) → copy < copies_of old → content_of old.files copy ≡ Some bytes → IsContent bytes → HasFailed old new copy
-
--- The vault failed so that a run ends: its count rose and, where it tells its calls, one failed that reads no parity. That one reads no copy
--- either, or each copy that is a content file had one that failed.
-pub record BreaksVault (old new : VaultView) : Type 0 where
-  pub rose : Rose old.faults new.faults
-  pub call : IsTrue new.tells_calls → Gained broke_vault old.calls new.calls
-  pub copies : (IsTrue new.tells_calls → Gained broke_sync old.calls new.calls) ⊎ (IsTrue old.tells → NoCopyWasRead old new)
-
 -- content is absent, or some copy is a content file
 abbrev pub HasContentOrNone : VaultView → Type 0
 HasContentOrNone v =
     ((copy : ℕ) → copy < copies_of v → content_of v.files copy ≡ None)
     ⊎ ((copy : ℕ) × (bytes : List ℕ) × (copy < copies_of v) × (content_of v.files copy ≡ Some bytes) × IsContent bytes)
-
--- the vault that the opener held, and what it is at the end
-abbrev pub held_vault : Entry → VaultView
-held_vault before = view_of (state_of before.opener.vault)
-
-abbrev pub left_vault : Exit → VaultView
-left_vault exit = view_of (state_of exit.after.vault)
 
 -- The table that a run begins with: what was loaded in it of what the opener held, or, without a copy, that of an array without content.
 pub record MayBegin (before : Entry) (exit : Exit) (setup : SetupValue) (table : TableValue) : Type 0 where
@@ -89,12 +66,6 @@ AreHeld before setup folders =
 abbrev pub IsUnrefused : Entry → Exit → Command → SetupValue → Type 0
 IsUnrefused before exit command setup = (way : SyncWay) (table : TableValue) (folders : List FolderView) (fault : ScanFault) → command ≡ commands.Sync way → MayBegin before exit setup table → AreHeld before setup folders
     → RefusesLayout setup way table folders exit.after.folders fault → fault ≡ scans.Memory
-
--- Neither the opener nor a folder nor the vault failed so that a run ends.
-pub record NothingBroke (before : Entry) (exit : Exit) : Type 0 where
-  pub opener : ¬ (Rose before.opener.faults exit.opener.faults)
-  pub folders : (d : ℕ) → ¬ (BreaksFolder (folder_held before.opener d) (folder_at exit.after.folders d))
-  pub vault : ¬ (BreaksVault (held_vault before) (left_vault exit))
 
 -- Words and configuration are accepted, all names that are selected are known, nothing failed so that a run ends, what is first read of the
 -- content is of the configuration's array, and no layout is refused. All that is said here of what the opener holds, it tells.

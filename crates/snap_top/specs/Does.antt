@@ -19,8 +19,10 @@ use Rattle.snap_top.specs.Dup.{dup_text}
 use Rattle.snap_top.specs.Fixing.{FixesBy}
 use Rattle.snap_top.specs.Scrubbing.{ScrubsBy}
 use Rattle.snap_top.specs.Syncing.{SyncsBy}
-use Rattle.snap_top.specs.Task.{Task, Did, reads_only, may_stand, stands_after, told_columns, Keeps, Left, Prints}
-use Rattle.snap_top.specs.Views.{World, WorldView, world_of, outside_of}
+use Rattle.snap_top.specs.Task.{Task, Left, Prints, outside_of}
+use Rattle.snap_top.specs.Effect.{Keeps, effect}
+use Rattle.snap_top.specs.Did.{Did, reads_only}
+use Rattle.snap_top.specs.Views.{World, WorldView, world_of}
 
 -- it prints a text, tells no event, and touches nothing but the output
 pub record PrintsAlone (text : List ℕ) (counted : ℕ) (before after : World) (left : Left) (did : Did) : Type 0 where
@@ -62,8 +64,8 @@ pub record IsDone {R : Type 0} (standing : R → ReportView) (stands : R → Lis
   pub named_is : left.named ≡ named
   pub did : Did
   pub does : Does task table (world_of before) (world_of after) left did
-  pub changes : ChangesBy (may_stand did) before.vault after.vault
-  pub ends : IsTrue before.vault.tells → Holds (stands_after did before.vault.files) after.vault
+  pub changes : ChangesBy (effect did).may_stand before.vault after.vault
+  pub ends : IsTrue before.vault.tells → Holds ((effect did).stands_after before.vault.files) after.vault
   pub caused : IsCaused left.answer left.counted left.told (outside_of (world_of before)) (outside_of (world_of after))
   pub keeps : Keeps did (world_of before) (world_of after)
-  pub reports : AllGiven standing stands (lines_of (told_columns did table) left.told) left.told olds news
+  pub reports : AllGiven standing stands (lines_of ((effect did).told_columns table) left.told) left.told olds news

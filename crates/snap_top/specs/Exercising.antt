@@ -8,7 +8,7 @@ use Rattle.snap_exercise.specs.Exercised.{IsExercise}
 use Rattle.snap_report.specs.declared.answer.Answer.{Answer}
 use Rattle.snap_report.specs.declared.answer.Answer.TheVariants.{Broken}
 use Rattle.snap_report.specs.declared.answer.RunFault.TheVariants.{Memory}
-use Rattle.snap_top.specs.Opening.{asked_by}
+use Rattle.snap_top.specs.Asked.{asked_by}
 use Rattle.snap_top.specs.Task.{Prints}
 
 -- memory ran out, and nothing was printed

@@ -12,7 +12,7 @@ use Rattle.stripe_reader.specs.Columns.{folder_at}
 use Rattle.snap_top.specs.Alike.{SeenAlike, seen_by}
 use Rattle.snap_top.specs.Fix.{FixRun}
 use Rattle.snap_top.specs.Restoring.{events_in}
-use Rattle.snap_top.specs.Run.{Entry, Exit}
+use Rattle.snap_top.specs.Entry.{Entry, Exit}
 
 -- the folders of two runs keep the same stamps
 abbrev pub KeepStampsAlike : Entry → Entry → Type 0

@@ -35,7 +35,8 @@ use Rattle.snap_report.specs.declared.answer.RunFault.TheVariants as runs
 use Rattle.stripe_reader.specs.Columns.{folder_at}
 use Rattle.snap_top.specs.Checking.{CheckRefuses}
 use Rattle.snap_top.specs.Fix.{FixRun}
-use Rattle.snap_top.specs.Task.{Task, Did, fixes, Left, Prints}
+use Rattle.snap_top.specs.Task.{Task, Left, Prints}
+use Rattle.snap_top.specs.Did.{Did, fixes}
 use Rattle.snap_top.specs.Views.{World, view_of}
 
 -- the fix as a whole, by what was listed, looked at and read

@@ -19,24 +19,23 @@ use Rattle.array_setup.specs.declared.ways.SyncWay.{SyncWay}
 use Rattle.snap_sync.specs.Part.{IsFullSync, tree_at, trees_of}
 use Rattle.snap_fix.specs.Genuine.{AreGenuine, held_row}
 use Rattle.snap_sync.specs.Resumed.{EndsAs}
-use Rattle.snap_top.specs.Alike.{NothingRose}
-use Rattle.snap_top.specs.Complete.{NothingBroke}
+use Rattle.snap_top.specs.Unbroken.{NothingBroke, NothingRose}
 use Rattle.snap_top.specs.Fix.{FixRun}
-use Rattle.snap_top.specs.History.{AreSoundBy, IsOfBytes}
+use Rattle.snap_top.specs.LastSynced.{AreSoundBy, IsOfBytes}
 use Rattle.snap_top.specs.Lost.{NamesLost}
-use Rattle.snap_top.specs.Moment.{AreOfRun, ChangesNothing, LoadsWell, StandsAfter, StandsIn}
+use Rattle.snap_top.specs.Effect.{effect}
+use Rattle.snap_top.specs.Asked.{asked_by, ChangesNothing}
+use Rattle.snap_top.specs.Stands.{StandsAfter, StandsIn}
 use Rattle.snap_top.specs.Naming.{EndsChecked, events_found}
 use Rattle.snap_top.specs.NextFix.{RestoresAgain}
-use Rattle.snap_top.specs.Opening.{asked_by}
 use Rattle.snap_top.specs.RestoredLast.{IsRestored}
-use Rattle.snap_top.specs.Resumed.{EndAlike, RunOf}
-use Rattle.snap_top.specs.Spared.{SparesBy}
-use Rattle.snap_top.specs.Standing.{BeginsOver, Change, GoesOver, IsHistory, LeavesTrees, MeetsNoChance, Runs, Stage, Standing, after_of, before_of}
+use Rattle.snap_top.specs.RunOf.{RunOf}
+use Rattle.snap_top.specs.Standing.{BeginsOver, Change, GoesOver, IsHistory, LeavesTrees, Runs, Stage, Standing, after_of, before_of}
 use Rattle.snap_top.specs.Step.{RunStep}
 use Rattle.snap_top.specs.Stopping.{FolderStandsIn}
-use Rattle.snap_top.specs.Sync.{BeginsFrom, HasNoCopy}
+use Rattle.snap_top.specs.Sync.{BeginsFrom, HasNoCopy, EndAlike}
 use Rattle.snap_top.specs.SyncedLast.{IsSyncedLast}
-use Rattle.snap_top.specs.Task.{fixes, has_fixed}
+use Rattle.snap_top.specs.Did.{fixes}
 
 -- ---- it is sound
 
@@ -85,8 +84,8 @@ module _ {O F V W : Type 0} (opener_view : O → OpenerView) (folder_view : F �
   pub record IsSyncOver (setup : SetupValue) (trees : List Tree) (seed : List ℕ) (standing : Standing) (run : RunOf O F V W) (next : Standing) : Type 0 where
     pub goes : GoesOver opener_view folder_view vault_view sink_view run standing next
     pub asked : IsAskedToSync setup trees seed standing run
-    pub reads_well : LoadsWell (before_of opener_view folder_view vault_view sink_view run) (after_of opener_view folder_view vault_view sink_view run)
-        goes.step.always.did goes.step.always.is_did
+    pub reads_well : (effect goes.step.always.did).loads_well (before_of opener_view folder_view vault_view sink_view run)
+        (after_of opener_view folder_view vault_view sink_view run) goes.step.always.is_did
 
   abbrev pub Syncs : SetupValue → List Tree → List ℕ → Standing → Change O F V W → Standing → Type 0
   Syncs setup trees seed standing (Runs run) next = IsSyncOver setup trees seed standing run next
@@ -169,7 +168,7 @@ module _ {O F V W : Type 0} (opener_view : O → OpenerView) (folder_view : F �
   -- Each fix of what stands, also one that is stopped at any moment, spares the cells, the files and the levels that it leaves alone.
   abbrev pub FixesSpare : Standing → Type 0
   FixesSpare standing = (run : RunOf O F V W) (next : Standing) → (goes : GoesOver opener_view folder_view vault_view sink_view run standing next)
-      → SparesBy goes.step.always.did standing next
+      → (effect goes.step.always.did).spares standing.trees next.trees standing.files next.files
 
   -- A fix that is stopped at any moment is resumed. Where a later one over what it left begins with the same table and goes to its end, and no count
   -- of faults rises in it, it has enough undamaged levels for each stripe that both look at, if the first one had; and each that was restorable is so
@@ -197,14 +196,14 @@ module _ {O F V W : Type 0} (opener_view : O → OpenerView) (folder_view : F �
   -- Each copy is as it was, or spells a table of that very run: of a part sync of what was laid out, or with the marks of a scrub.
   abbrev pub LeavesCopies : Standing → Type 0
   LeavesCopies standing = (run : RunOf O F V W) (next : Standing) → (goes : GoesOver opener_view folder_view vault_view sink_view run standing next)
-      → AreOfRun goes.step.always.did standing.copies standing.files next.files
+      → (effect goes.step.always.did).copies_are standing.copies standing.files next.files
 
   -- Trees stay, as a history supposes: at each moment of a run that fixed nothing the files of a folder are those that stood, at a stop before
   -- its end if the folder tells its calls.
   abbrev pub TreesStay : Standing → Type 0
   TreesStay standing = (run : RunOf O F V W) (d : ℕ) (left : Tree) → BeginsOver standing (before_of opener_view folder_view vault_view sink_view run)
       → (step : RunStep (before_of opener_view folder_view vault_view sink_view run) (after_of opener_view folder_view vault_view sink_view run) run.status)
-      → (after_of opener_view folder_view vault_view sink_view run).has_vault ≡ true → has_fixed step.always.did ≡ false
+      → (after_of opener_view folder_view vault_view sink_view run).has_vault ≡ true → (effect step.always.did).writes_files ≡ false
       → FolderStandsIn (before_of opener_view folder_view vault_view sink_view run) (after_of opener_view folder_view vault_view sink_view run) d left
       → left ≡ tree_at standing.trees d
 
@@ -220,8 +219,8 @@ module _ {O F V W : Type 0} (opener_view : O → OpenerView) (folder_view : F �
   GoesOn standing = (run : RunOf O F V W) (files : Files) (trees : List Tree) → BeginsOver standing (before_of opener_view folder_view vault_view sink_view run)
       → (step : RunStep (before_of opener_view folder_view vault_view sink_view run) (after_of opener_view folder_view vault_view sink_view run) run.status)
       → StandsIn (before_of opener_view folder_view vault_view sink_view run) (after_of opener_view folder_view vault_view sink_view run) files
-      → LeavesTrees step.always.did (before_of opener_view folder_view vault_view sink_view run) (after_of opener_view folder_view vault_view sink_view run) standing.trees trees
-      → MeetsNoChance step.always.did standing.last.snapshot
+      → LeavesTrees (effect step.always.did).writes_files (before_of opener_view folder_view vault_view sink_view run) (after_of opener_view folder_view vault_view sink_view run) standing.trees trees
+      → (effect step.always.did).meets_no_chance standing.last.snapshot
       → (next : Standing) × (next.files ≡ files) × (next.trees ≡ trees)
       × (goes : GoesOver opener_view folder_view vault_view sink_view run standing next) × (goes.step ≡ step)
 
@@ -229,7 +228,7 @@ module _ {O F V W : Type 0} (opener_view : O → OpenerView) (folder_view : F �
   abbrev pub ArrivesAtItsEnd : Standing → Type 0
   ArrivesAtItsEnd standing = (run : RunOf O F V W) → BeginsOver standing (before_of opener_view folder_view vault_view sink_view run)
       → (step : RunStep (before_of opener_view folder_view vault_view sink_view run) (after_of opener_view folder_view vault_view sink_view run) run.status)
-      → (after_of opener_view folder_view vault_view sink_view run).has_vault ≡ true → MeetsNoChance step.always.did standing.last.snapshot
+      → (after_of opener_view folder_view vault_view sink_view run).has_vault ≡ true → (effect step.always.did).meets_no_chance standing.last.snapshot
       → (next : Standing) × (next.files ≡ (after_of opener_view folder_view vault_view sink_view run).after.vault.files)
       × (next.trees ≡ trees_of (after_of opener_view folder_view vault_view sink_view run).after.folders)
       × (goes : GoesOver opener_view folder_view vault_view sink_view run standing next) × (goes.step ≡ step)

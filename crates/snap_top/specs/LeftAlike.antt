@@ -5,11 +5,11 @@ use Rattle.parity_writer.specs.Keeps.{SameParities}
 use Rattle.snap_config.specs.declared.options.Options.{Options}
 use Rattle.snap_report.specs.Telling.{Tells, between}
 use Rattle.snap_sync.specs.Part.{SyncRun, without_checks}
-use Rattle.snap_top.specs.Moment.{StandsAfter}
-use Rattle.snap_top.specs.Opening.{asked_by}
-use Rattle.snap_top.specs.Run.{Entry, Exit}
+use Rattle.snap_top.specs.Stands.{StandsAfter}
+use Rattle.snap_top.specs.Asked.{asked_by}
+use Rattle.snap_top.specs.Entry.{Entry, Exit}
 use Rattle.snap_top.specs.Scrub.{ScrubRun, marked_table}
-use Rattle.snap_top.specs.Task.{end_table}
+use Rattle.snap_top.specs.Sync.{end_table}
 
 -- They were asked for the same command, with the same log. The number of readers may differ.
 pub record AskSame (one other : Entry) : Type 0 where

@@ -1,13 +1,7 @@
 -- What a run tells that was asked to check an array, or for another thing that changes no files.
-use Rattle.std.specs.Prelude.{◌≡◌, ◌↔◌, ℕ, List, ◌++◌, Bool, false, IsTrue, Ok, count_by}
+use Rattle.std.specs.Prelude.{◌≡◌, ◌↔◌, ℕ, List, ◌++◌, Bool, false, IsTrue, count_by}
 use Rattle.disk_model.specs.Cause.{Rose, RoseBy}
-use Rattle.disk_model.specs.Vault.{copies_of}
-use Rattle.file_table.specs.Table.{TableValue}
 use Rattle.parity_writer.specs.Sound.{Sound, Closed}
-use Rattle.snap_config.specs.declared.options.Command.{Command}
-use Rattle.snap_config.specs.declared.options.Command.TheVariants as commands
-use Rattle.snap_config.specs.declared.options.Options.{Options}
-use Rattle.array_setup.specs.declared.ways.Selection.{Selection}
 use Rattle.stripe_examiner.specs.Counts.{at_most}
 use Rattle.snap_fix.specs.Audited.{FindsNothing}
 use Rattle.snap_fix.specs.Course.{check_events}
@@ -18,37 +12,13 @@ use Rattle.repair_scope.specs.declared.scope.Mode.TheVariants as modes
 use Rattle.snap_report.specs.EndLines.{check_text}
 use Rattle.snap_report.specs.EventLines.{lines_of}
 use Rattle.snap_report.specs.Kind.{is_finding}
-use Rattle.snap_report.specs.ListText.{list_text}
-use Rattle.snap_report.specs.StatusText.{bad_in, status_text}
 use Rattle.snap_report.specs.Telling.{Tells, between}
 use Rattle.snap_report.specs.declared.events.Event.{Event}
-use Rattle.snap_top.specs.Check.{CheckRun, ChecksOver}
-use Rattle.snap_top.specs.Dup.{dup_text}
-use Rattle.snap_top.specs.Ended.{IsEndStatus, WentToItsEnd}
-use Rattle.snap_top.specs.Loading.{Loading}
+use Rattle.snap_top.specs.Check.{CheckRun}
+use Rattle.snap_top.specs.Output.{IsEndStatus}
 use Rattle.snap_top.specs.Lost.{NamesLost, NamesPending}
-use Rattle.snap_top.specs.Moment.{TellsVault}
-use Rattle.snap_top.specs.Opening.{IsConfigured, asked_by}
-use Rattle.snap_top.specs.Printing.{EndsPrinted}
-use Rattle.snap_top.specs.Run.{Entry, Exit}
-use Rattle.snap_top.specs.Sync.{BeginsAmong}
-
--- the command of a run in a mode
-abbrev pub command_in : Mode → Selection → Command
-command_in modes.Check selection = commands.Check selection
-command_in modes.Audit selection = commands.Audit selection
-command_in modes.Fix selection = commands.Fix selection
-
--- The check or the audit of a run, by the configuration that was asked for, over the folders and the vault that the
--- opener held. Where no copy's reading failed while its table was loaded, that is the first copy's that is a content file.
-pub record IsCheckOf (mode : Mode) (before : Entry) (exit : Exit) (run : CheckRun) : Type 0 where
-  pub readers : ℕ
-  pub configured : IsConfigured before.texts before.opener (command_in mode run.selection) readers run.setup
-  pub folders_are : run.folders ≡ before.opener.folders
-  pub ended_is : run.ended ≡ exit.after.folders
-  pub over : ChecksOver mode (copies_of before.opener.vault) before.opener.vault run
-  pub begins : BeginsAmong run.setup before.seed (copies_of before.opener.vault) before.opener.vault.files run.loaded
-  pub loading : Loading before exit run.setup run.loaded
+use Rattle.snap_top.specs.Entry.{Entry, Exit}
+use Rattle.snap_top.specs.Began.{IsCheckOf}
 
 -- all events of a check
 abbrev pub events_found : CheckRun → List Event
@@ -86,18 +56,3 @@ pub record EndsAudited (before : Entry) (exit : Exit) (status : ℕ) : Type 0 wh
   pub run : CheckRun
   pub has : HasChecked modes.Audit before exit status run
   pub clean : (count_by is_finding (events_found run) ≡ 0) ↔ FindsNothing run.plan run.stripes
-
--- by the command
-abbrev pub EndsAsAsked : Command → Entry → Exit → ℕ → Type 0
-EndsAsAsked commands.List before exit status = EndsPrinted commands.List (λ (table : TableValue). list_text table.columns) (λ (table : TableValue). 0) before exit status
-EndsAsAsked commands.Status before exit status = EndsPrinted commands.Status status_text (λ (table : TableValue). bad_in table.infos) before exit status
-EndsAsAsked commands.Dup before exit status = EndsPrinted commands.Dup dup_text (λ (table : TableValue). 0) before exit status
-EndsAsAsked (commands.Check selection) before exit status = EndsChecked before exit status
-EndsAsAsked (commands.Audit selection) before exit status = EndsAudited before exit status
-EndsAsAsked _ before exit status = Unit {0}
-
--- So a list, a status, a list of duplicates, a check and an audit end that were asked for and went to their ends, whatever the output did, and
--- whether or not the folders tell what they hold.
-abbrev pub ChecksEnd : Entry → Exit → ℕ → Type 0
-ChecksEnd before exit status = TellsVault before → WentToItsEnd before exit status
-    → (asked : Options) → asked_by before.texts ≡ Ok asked → EndsAsAsked asked.command before exit status

@@ -3,10 +3,10 @@ use Rattle.std.specs.Prelude.{◌≡◌, ℕ, ◌<◌, length, Bool, Contains}
 use Rattle.snap_fix.specs.Genuine.{IsRestorableStripe, TellsIntactLevels, held_row}
 use Rattle.snap_fix.specs.Mended.{Mended}
 use Rattle.snap_sync.specs.Part.{tree_at, trees_of}
-use Rattle.snap_top.specs.Alike.{NothingRose}
+use Rattle.snap_top.specs.Unbroken.{NothingRose}
 use Rattle.snap_top.specs.Fix.{FixRun}
-use Rattle.snap_top.specs.Moment.{TellsAll}
-use Rattle.snap_top.specs.Run.{Entry, Exit}
+use Rattle.snap_top.specs.Stands.{TellsAll}
+use Rattle.snap_top.specs.Entry.{Entry, Exit}
 use Rattle.snap_top.specs.Standing.{Standing}
 use Rattle.snap_top.specs.Stopping.{FolderStandsIn}
 use Rattle.snap_top.specs.Undamaged.{HasEnough}

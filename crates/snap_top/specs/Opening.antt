@@ -1,5 +1,5 @@
 -- What a run asks its opener for, and what it is given.
-use Rattle.std.specs.Prelude.{◌≡◌, ◌⊎◌, ℕ, ◌<◌, List, [], ◌∷◌, length, take, replicate, Bool, true, false, IsTrue, Option, None, Some, Result, Ok, Err}
+use Rattle.std.specs.Prelude.{◌≡◌, ◌⊎◌, ℕ, ◌<◌, List, [], ◌∷◌, length, take, replicate, Bool, true, false, IsTrue, Option, None, Some, Ok, Err}
 use Rattle.disk_model.specs.Cause.{Rose}
 use Rattle.disk_model.specs.Folder.{FolderView}
 use Rattle.disk_model.specs.Opener.{OpenerView, OpenerDone, OpenerGoesOn, Config, Open, FolderIsGiven, folder_held}
@@ -9,7 +9,6 @@ use Rattle.disk_model.specs.declared.fault.OpenFault.{OpenFault}
 use Rattle.disk_model.specs.declared.fault.OpenFault.TheVariants as opens
 use Rattle.snap_config.specs.Config.{read_setup, IsRefusal}
 use Rattle.array_setup.specs.Setup.{SetupValue}
-use Rattle.snap_config.specs.Words.{reading_among}
 use Rattle.snap_config.specs.declared.options.Command.{Command}
 use Rattle.snap_config.specs.declared.options.Options.{Options}
 use Rattle.snap_config.specs.declared.options.WordsFault.{WordsFault}
@@ -17,9 +16,8 @@ use Rattle.snap_config.specs.declared.options.WordsFault.TheVariants as words
 use Rattle.snap_config.specs.declared.why.ConfigFault.{ConfigFault}
 use Rattle.snap_top.specs.Known.{unknown_in}
 use Rattle.snap_top.specs.Levels.{by_levels, opener_by}
-use Rattle.snap_top.specs.Task.{WorksOnArray}
+use Rattle.snap_top.specs.Asked.{WorksOnArray, IsConfigured, asked_by}
 use Rattle.snap_top.specs.Views.{AreAllOpen, folder_at}
-use Rattle.snap_top.specs.declared.commands.TheConstants.{COMMANDS}
 use Rattle.snap_top.specs.declared.end.Refusal.{Refusal}
 use Rattle.snap_top.specs.declared.end.Refusal.TheVariants.{Words, Unread, Config as BadConfig, NoDisk, Unopened}
 
@@ -39,29 +37,10 @@ is_failure opens.Memory = false
 
 -- ---- what was asked for
 
--- what the words ask for, among the commands that are built
-abbrev pub asked_by : List (List ℕ) → Result Options WordsFault
-asked_by texts = reading_among COMMANDS texts
-
--- the bytes of a configuration, and what they say; they are those of the file, where the opener tells that
-pub record Says (opener : OpenerView) (log : Option (List ℕ)) (setup : SetupValue) : Type 0 where
-  pub bytes : List ℕ
-  pub held : IsTrue opener.tells → bytes ≡ take 1048577 opener.config
-  pub says : read_setup bytes log ≡ Ok setup
-
 pub record SaysNot (opener : OpenerView) (log : Option (List ℕ)) (fault : ConfigFault) : Type 0 where
   pub bytes : List ℕ
   pub held : IsTrue opener.tells → bytes ≡ take 1048577 opener.config
   pub refused : IsRefusal fault (read_setup bytes log)
-
--- the words ask for this command, which works on an array, with so many readers, and the file that they name says this configuration
-pub record IsConfigured (texts : List (List ℕ)) (opener : OpenerView) (command : Command) (readers : ℕ) (setup : SetupValue) : Type 0 where
-  pub asked : Options
-  pub read : asked_by texts ≡ Ok asked
-  pub array : WorksOnArray asked.command
-  pub command_is : command ≡ asked.command
-  pub readers_are : readers ≡ asked.readers
-  pub says : Says opener asked.log setup
 
 -- ---- why nothing was opened
 

@@ -7,10 +7,10 @@ use Rattle.file_table.specs.Valid.{IsValid}
 use Rattle.array_setup.specs.Setup.{SetupValue}
 use Rattle.snap_config.specs.declared.options.Command.{Command}
 use Rattle.snap_report.specs.Telling.{Tells, between}
-use Rattle.snap_top.specs.Ended.{IsEndStatus}
+use Rattle.snap_top.specs.Output.{IsEndStatus}
 use Rattle.snap_top.specs.Loading.{Loading}
-use Rattle.snap_top.specs.Opening.{IsConfigured}
-use Rattle.snap_top.specs.Run.{Entry, Exit}
+use Rattle.snap_top.specs.Asked.{IsConfigured}
+use Rattle.snap_top.specs.Entry.{Entry, Exit}
 use Rattle.snap_top.specs.Sync.{BeginsAmong}
 
 -- A command that prints a text of the table that it began with went to its end. A copy spells that table, or there is no copy, and it is that

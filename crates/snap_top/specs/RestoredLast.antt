@@ -16,12 +16,12 @@ use Rattle.stripe_examiner.specs.Facts.{StripeFacts}
 use Rattle.repair_scope.specs.Plan.{entry_at, is_searched, is_synced}
 use Rattle.stripe_reader.specs.Columns.{folder_at}
 use Rattle.snap_top.specs.Fix.{FixRun}
-use Rattle.snap_top.specs.History.{LastSynced}
+use Rattle.snap_top.specs.LastSynced.{LastSynced}
 use Rattle.snap_top.specs.Lost.{IsToldLost, NamesBlocked, NamesUnsynced}
-use Rattle.snap_top.specs.Moment.{StandsAfter}
+use Rattle.snap_top.specs.Stands.{StandsAfter}
 use Rattle.snap_top.specs.Restoring.{EndsFixed, events_in}
-use Rattle.snap_top.specs.Run.{Entry, Exit}
-use Rattle.snap_top.specs.Task.{Did, fixes}
+use Rattle.snap_top.specs.Entry.{Entry, Exit}
+use Rattle.snap_top.specs.Did.{Did, fixes}
 use Rattle.snap_top.specs.Undamaged.{HasEnough}
 use Rattle.parity_writer.specs.Sound.{last_row}
 

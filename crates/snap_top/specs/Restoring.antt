@@ -1,13 +1,10 @@
 -- What a run leaves that was asked to fix an array.
-use Rattle.std.specs.Prelude.{◌≡◌, ℕ, ◌<◌, List, ◌++◌, length, Bool, false, IsTrue, Ok, count_by, sum_by}
+use Rattle.std.specs.Prelude.{◌≡◌, ℕ, ◌<◌, List, ◌++◌, length, Bool, false, IsTrue, count_by, sum_by}
 use Rattle.cauchy.specs.Matrix.{byte_of}
 use Rattle.disk_model.specs.Cause.{Rose, RoseBy}
 use Rattle.disk_model.specs.Vault.{Holds}
 use Rattle.file_table.specs.declared.block.Cell.{Cell}
 use Rattle.parity_writer.specs.Sound.{Sound, Closed}
-use Rattle.snap_config.specs.declared.options.Command.TheVariants as commands
-use Rattle.snap_config.specs.declared.options.Options.{Options}
-use Rattle.array_setup.specs.declared.ways.Selection.{Selection}
 use Rattle.stripe_examiner.specs.Counts.{at_most}
 use Rattle.snap_fix.specs.Ending.{Finishes}
 use Rattle.snap_fix.specs.FixCourse.{fix_events}
@@ -26,12 +23,11 @@ use Rattle.snap_report.specs.Kind.{is_left}
 use Rattle.snap_report.specs.Telling.{Tells, between}
 use Rattle.snap_report.specs.declared.events.Event.{Event}
 use Rattle.stripe_reader.specs.Columns.{folder_at}
-use Rattle.snap_top.specs.Ended.{IsEndStatus, WentToItsEnd}
+use Rattle.snap_top.specs.Output.{IsEndStatus}
 use Rattle.snap_top.specs.Fix.{FixRun, LeavesFixed, MayStandFixed}
 use Rattle.snap_top.specs.Lost.{IsDamagedOfSynced, NamesLost, NamesPending}
-use Rattle.snap_top.specs.Moment.{IsFixOf, TellsAll}
-use Rattle.snap_top.specs.Opening.{asked_by}
-use Rattle.snap_top.specs.Run.{Entry, Exit}
+use Rattle.snap_top.specs.Began.{IsFixOf}
+use Rattle.snap_top.specs.Entry.{Entry, Exit}
 
 -- all events of a fix
 abbrev pub events_in : FixRun → Finishes → List Event
@@ -76,8 +72,3 @@ pub record EndsFixed (before : Entry) (exit : Exit) (status : ℕ) : Type 0 wher
   pub restores : (snapshot : Closed) (is_changed : ℕ → ℕ → Bool)
       → Sound run.loaded before.opener.vault.files snapshot is_changed
       → AreGenuine run.plan (held_row run.plan.table snapshot) (facts_of run.stripes) → Restores run finishes snapshot
-
--- so a fix ends that was asked for and went to its end, whatever the output did
-abbrev pub FixesEnd : Entry → Exit → ℕ → Type 0
-FixesEnd before exit status = TellsAll before → WentToItsEnd before exit status → (asked : Options) (selection : Selection)
-    → asked_by before.texts ≡ Ok asked → asked.command ≡ commands.Fix selection → EndsFixed before exit status

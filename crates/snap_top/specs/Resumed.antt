@@ -1,55 +1,56 @@
 -- Syncs of runs that are stopped one after another, said by what `run` says of each of them. Runs that change nothing may stand between.
-use Rattle.std.specs.Prelude.{◌≡◌, ◌⊎◌, ℕ, List, [], ◌∷◌, length, take, Bool, Option, Ok}
-use Rattle.content_file.specs.Save.{HasSaved}
-use Rattle.content_file.specs.Spelling.{spelling}
+use Rattle.std.specs.Prelude.{◌≡◌, ◌⊎◌, ℕ, List, [], ◌∷◌, length, take, Ok}
 use Rattle.disk_model.specs.Files.{Files}
 use Rattle.disk_model.specs.Folder.{FolderView}
 use Rattle.disk_model.specs.Opener.{OpenerView}
 use Rattle.disk_model.specs.Sink.{SinkView}
 use Rattle.disk_model.specs.Tree.{Tree}
 use Rattle.disk_model.specs.Vault.{VaultView, IsSettled}
-use Rattle.file_table.specs.Table.{TableValue}
 use Rattle.snap_config.specs.Config.{read_setup}
 use Rattle.array_setup.specs.Setup.{SetupValue}
 use Rattle.snap_config.specs.declared.options.Command.TheVariants as commands
 use Rattle.snap_config.specs.declared.options.Options.{Options}
 use Rattle.array_setup.specs.declared.ways.SyncWay.{SyncWay}
-use Rattle.snap_sync.specs.Part.{trees_of}
-use Rattle.snap_sync.specs.Resumed.{EndsAs}
+use Rattle.snap_sync.specs.Part.{trees_of, AllTell, SyncRun, run_trees}
 use Rattle.snap_top.specs.Loading.{ReadsWell}
-use Rattle.snap_top.specs.Moment.{ChangesNothing, EndsInPart, EveryMomentIsSound, HoldsFresh, IsSoundAlways, LoadsWell, StandsAfter, StandsIn, TellsAll}
-use Rattle.snap_top.specs.Opening.{asked_by}
-use Rattle.snap_top.specs.Run.{Entry, Exit, at_entry, entry_seen, exit_of, exit_seen}
-use Rattle.snap_top.specs.Sync.{HasNoCopy}
+use Rattle.snap_top.specs.Moment.{EveryMomentIsSound, IsSoundAlways}
+use Rattle.snap_top.specs.Effect.{effect}
+use Rattle.snap_top.specs.InPart.{EndsInPart}
+use Rattle.snap_top.specs.Asked.{asked_by, ChangesNothing}
+use Rattle.snap_top.specs.Stands.{HoldsFresh, StandsAfter, StandsIn, TellsAll}
+use Rattle.snap_top.specs.Entry.{Entry}
+use Rattle.snap_top.specs.Sync.{HasNoCopy, BeginsFrom, SyncsOver}
+use Rattle.snap_top.specs.RunOf.{end_of, entry_of, RunOf, StoppedRun}
+use Rattle.snap_sync.specs.Images.{MayStand}
 
--- ---- a run, and its objects
+-- ---- one sync after another, each of which is stopped
 
--- its words, its objects at its beginning and at its end, and its status
-pub record RunOf (O F V W : Type 0) : Type 0 where
-  pub texts : List (List ℕ)
-  pub opener : O
-  pub opener_new : O
-  pub out : W
-  pub out_new : W
-  pub moment : ℕ
-  pub seed : List ℕ
-  pub folders : List F
-  pub vault : Option V
-  pub status : ℕ
+-- A sync over the files of a vault, and no copy's reading failed.
+pub record SyncsFrom (seed : List ℕ) (copies : ℕ) (files : Files) (run : SyncRun) : Type 0 where
+  pub over : SyncsOver copies files run
+  pub begins : BeginsFrom run.setup seed copies files run.loaded
 
--- and the files that a stop at some moment of it leaves
-pub record StoppedRun (O F V W : Type 0) : Type 0 where
-  pub run : RunOf O F V W
+-- a sync, and the files that a stop at some moment of it leaves
+pub record Stop : Type 0 where
+  pub run : SyncRun
   pub left : Files
 
--- by the levels that its configuration says
-abbrev pub entry_of : {O F V W : Type 0} → (O → OpenerView) → (W → SinkView) → RunOf O F V W → Entry
-entry_of opener_view sink_view run = entry_seen (at_entry run.texts (opener_view run.opener) (sink_view run.out) run.moment run.seed)
+-- by this setup, and over folders that tell their trees, which are these
+pub record IsOfArray (setup : SetupValue) (trees : List Tree) (run : SyncRun) : Type 0 where
+  pub setup_is : run.setup ≡ setup
+  pub told : AllTell run.folders
+  pub trees_are : run_trees run ≡ trees
 
-abbrev pub end_of : {O F V W : Type 0} → (O → OpenerView) → (F → FolderView) → (V → VaultView) → (W → SinkView) → RunOf O F V W → Exit
-end_of opener_view folder_view vault_view sink_view run =
-    exit_seen (at_entry run.texts (opener_view run.opener) (sink_view run.out) run.moment run.seed)
-    (exit_of folder_view vault_view (opener_view run.opener_new) run.folders run.vault (sink_view run.out_new))
+pub record StopsFrom (setup : SetupValue) (trees : List Tree) (seed : List ℕ) (copies : ℕ) (files : Files) (stop : Stop) : Type 0 where
+  pub syncs : SyncsFrom seed copies files stop.run
+  pub of_array : IsOfArray setup trees stop.run
+  pub moment : MayStand stop.run.plan stop.run.readings files stop.left
+
+-- Each begins with what the one before it left.
+abbrev pub AreStopped : SetupValue → List Tree → List ℕ → ℕ → List Stop → Files → Files → Type 0
+AreStopped setup trees seed copies [] files left = left ≡ files
+AreStopped setup trees seed copies (stop ∷ stops) files left =
+    StopsFrom setup trees seed copies files stop × AreStopped setup trees seed copies stops stop.left left
 
 -- ---- a sync of an array
 
@@ -81,7 +82,7 @@ module _ {O F V W : Type 0} (opener_view : O → OpenerView) (folder_view : F �
   pub record IsStopped (files : Files) (stop : StoppedRun O F V W) : Type 0 where
     pub asks : AsksForSync setup trees seed files (entry_of opener_view sink_view stop.run)
     pub always : IsSoundAlways (entry_of opener_view sink_view stop.run) (end_of opener_view folder_view vault_view sink_view stop.run) stop.run.status
-    pub reads_well : LoadsWell (entry_of opener_view sink_view stop.run) (end_of opener_view folder_view vault_view sink_view stop.run) always.did always.is_did
+    pub reads_well : (effect always.did).loads_well (entry_of opener_view sink_view stop.run) (end_of opener_view folder_view vault_view sink_view stop.run) always.is_did
     pub stands : StandsIn (entry_of opener_view sink_view stop.run) (end_of opener_view folder_view vault_view sink_view stop.run) stop.left
 
   -- A run of a command that changes nothing, by whichever configuration and over whichever trees, was stopped at some moment or ended. The vault was
@@ -99,12 +100,3 @@ module _ {O F V W : Type 0} (opener_view : O → OpenerView) (folder_view : F �
   abbrev pub AreStoppedRuns : List (StoppedRun O F V W) → Files → Files → Type 0
   AreStoppedRuns [] files left = left ≡ files
   AreStoppedRuns (stop ∷ stops) files left = (IsStopped files stop ⊎ IsBetween files stop) × AreStoppedRuns stops stop.left left
-
--- What two syncs left: each copy of both spells a table, and these are the same but for the times of the last checks; parity is the same in all
--- stripes of the table, but for what was changed from outside.
-pub record EndAlike (copies : ℕ) (is_changed : ℕ → ℕ → Bool) (one other : Files) : Type 0 where
-  pub table : TableValue
-  pub other_table : TableValue
-  pub saved : HasSaved copies (spelling table) one
-  pub other_saved : HasSaved copies (spelling other_table) other
-  pub alike : EndsAs table is_changed table other_table one other

@@ -1,14 +1,11 @@
 -- What a run leaves, and why it ended so.
-use Rattle.std.specs.Prelude.{◌≡◌, ℕ, List, [], length, Bool, true, false, IsTrue, Option, None, Some, is_some, map, Result, Ok, Err}
-use Rattle.content_file.specs.InOrder.{AreReadFor, ReadsInOrder}
-use Rattle.content_file.specs.Load.{IsReadBelow, Loads, LoadFails, LoadIsDamaged, ReadsInPieces}
+use Rattle.std.specs.Prelude.{◌≡◌, ℕ, List, [], length, Bool, true, false, IsTrue, Option, None, Some, Ok, Err}
+use Rattle.content_file.specs.Load.{LoadFails, LoadIsDamaged}
 use Rattle.content_file.specs.declared.loading.LoadFault.{LoadFault}
 use Rattle.content_file.specs.declared.loading.LoadFault.TheVariants as loads
-use Rattle.disk_model.specs.Calls.{MakesOnly}
-use Rattle.disk_model.specs.Folder.{FolderView}
-use Rattle.disk_model.specs.Opener.{OpenerView, OpenerGoesOn, HoldsSame, SameVault}
+use Rattle.disk_model.specs.Opener.{OpenerGoesOn, HoldsSame, SameVault}
 use Rattle.disk_model.specs.Sink.{SinkView}
-use Rattle.disk_model.specs.Vault.{VaultView, VaultState, SomeCalls, DraftsStay, ChangesBy, Holds, IsSettled, copies_of}
+use Rattle.disk_model.specs.Vault.{VaultState, ChangesBy, Holds, IsSettled}
 use Rattle.file_table.specs.Table.{Column, TableValue}
 use Rattle.file_table.specs.Valid.{IsValid}
 use Rattle.array_setup.specs.Setup.{SetupValue, setup_value}
@@ -18,53 +15,35 @@ use Rattle.snap_report.specs.Report.{ReportView, AllGiven}
 use Rattle.snap_report.specs.declared.answer.Answer.{Answer}
 use Rattle.snap_report.specs.Telling.{Tells, between}
 use Rattle.snap_report.specs.declared.events.Event.{Event}
-use Rattle.snap_top.specs.Array.{empty_table, Matches, DiffersIn}
+use Rattle.snap_top.specs.Array.{DiffersIn}
 use Rattle.snap_top.specs.Does.{Does}
-use Rattle.snap_top.specs.Levels.{by_setup, opener_by, said_by}
-use Rattle.snap_top.specs.Task.{Task, Did, reads_only, may_stand, stands_after, told_columns, Keeps, Left}
+use Rattle.snap_top.specs.Task.{Task, Left, outside_of}
+use Rattle.snap_top.specs.Effect.{Keeps, effect}
+use Rattle.snap_top.specs.Did.{Did, reads_only}
 use Rattle.snap_top.specs.End.{status_of, line_of}
 use Rattle.snap_top.specs.Exercising.{AsksForExercise, Exercises}
 use Rattle.snap_top.specs.Opening.{Refuses, IsGiven}
-use Rattle.snap_top.specs.Views.{World, WorldView, world_view, world_of, view_of, outside_of}
+use Rattle.snap_top.specs.Views.{World, WorldView, world_of, view_of}
 use Rattle.snap_top.specs.declared.end.Difference.{Difference}
 use Rattle.snap_top.specs.declared.end.End.{End}
 use Rattle.snap_top.specs.declared.end.End.TheVariants.{Refused, Worked, Exercised}
 use Rattle.snap_top.specs.declared.end.Ending.{Ending}
 use Rattle.snap_top.specs.declared.end.Ending.TheVariants.{NotLoaded, NoTable, OtherArray, Answered}
 use Rattle.snap_top.specs.declared.end.Refusal.{Refusal}
+use Rattle.snap_top.specs.Loading.{BeginsWith, LoadsFrom, LoadsInOrder, ReadsCopies}
+use Rattle.snap_top.specs.Entry.{Entry, entry_by, Exit, exit_by}
 
 -- ---- after the opening
-
--- The content copies were read, each in so many calls at most (`ReadsInPieces`), and nothing of the vault was changed.
-pub record ReadsCopies (old new : VaultState) : Type 0 where
-  pub calls : SomeCalls (view_of old) (view_of new)
-  pub made : MakesOnly (IsReadBelow (copies_of (view_of old))) (view_of old) (view_of new)
-  pub pieces : ReadsInPieces (copies_of (view_of old)) (view_of old) (view_of new)
-  pub drafts : DraftsStay (view_of old) (view_of new)
-  pub files : IsTrue old.tells → new.files ≡ old.files
 
 -- of all that was opened, the content copies alone were read
 pub record OnlyLoads (before after : World) : Type 0 where
   pub vault : ReadsCopies before.vault after.vault
   pub others : after ≡ record before { vault = after.vault }
 
--- what loading gave, and why it gave nothing
-abbrev pub LoadsFrom : VaultState → VaultState → Option TableValue → Type 0
-LoadsFrom old new loaded = Loads (view_of old) (view_of new) loaded
-
 abbrev pub LoadsNot : LoadFault → VaultState → VaultState → Type 0
 LoadsNot loads.Failed old new = LoadFails (view_of old) (view_of new)
 LoadsNot (loads.Damaged damages) old new = LoadIsDamaged (view_of old) (view_of new) damages
 LoadsNot loads.Memory old new = Unit {0}
-
--- The copies were read in order, each to its end or to where it failed, and what was loaded is what came (`ReadsInOrder`).
-abbrev pub LoadsInOrder : Result (Option TableValue) LoadFault → VaultState → VaultState → Type 0
-LoadsInOrder result old new = ReadsInOrder (AreReadFor (copies_of (view_of old)) result) (view_of old) (view_of new)
-
--- the table that a command begins with: the one that was loaded, which is of the configuration's array, or that of an array without content
-abbrev pub BeginsWith : SetupValue → List ℕ → Option TableValue → TableValue → Type 0
-BeginsWith setup seed None table = table ≡ empty_table setup seed
-BeginsWith setup seed (Some loaded) table = (table ≡ loaded) × Matches setup loaded
 
 -- why a command has no table to begin with
 abbrev pub BeginsNot : SetupValue → Option TableValue → Ending → Type 0
@@ -113,7 +92,7 @@ Goes task given after (Answered answer named) told did = (counted : ℕ) × IsAn
 
 -- the columns that give the names in the lines of these events
 abbrev pub columns_in : (task : Task) (given after : World) (ending : Ending) (told : List Event) (did : Did) → Goes task given after ending told did → List Column
-columns_in task given after (Answered answer named) told did goes = told_columns did goes.1.table
+columns_in task given after (Answered answer named) told did goes = (effect did).told_columns goes.1.table
 columns_in task given after _ told did goes = []
 
 -- What holds of every run that opened its array, of what it was given.
@@ -122,59 +101,12 @@ pub record Works {R : Type 0} (standing : R → ReportView) (stands : R → List
   pub told : List Event
   pub did : Did
   pub goes : Goes task (world_of given) (world_of after) ending told did
-  pub changes : ChangesBy (may_stand did) given.vault after.vault
-  pub ends : IsTrue given.vault.tells → Holds (stands_after did given.vault.files) after.vault
+  pub changes : ChangesBy (effect did).may_stand given.vault after.vault
+  pub ends : IsTrue given.vault.tells → Holds ((effect did).stands_after given.vault.files) after.vault
   pub keeps : Keeps did (world_of given) (world_of after)
   pub reports : AllGiven standing stands (lines_of (columns_in task (world_of given) (world_of after) ending told did goes) told) told olds news
 
 -- ---- a run
-
--- What a run began with, and what it left: all that it touched but the standard error and the reports. Where nothing was opened, the vault is the
--- one that the opener still holds.
-pub record Entry : Type 1 where
-  pub texts : List (List ℕ)
-  pub opener : OpenerView
-  pub out : SinkView
-  pub moment : ℕ
-  pub seed : List ℕ
-
-pub record Exit : Type 1 where
-  pub opener : OpenerView
-  pub has_vault : Bool
-  pub after : WorldView
-
-abbrev pub at_entry : List (List ℕ) → OpenerView → SinkView → ℕ → List ℕ → Entry
-at_entry texts opener out moment seed = record { texts = texts; opener = opener; out = out; moment = moment; seed = seed }
-
-abbrev pub at_exit : OpenerView → Bool → WorldView → Exit
-at_exit opener has_vault after = record { opener = opener; has_vault = has_vault; after = after }
-
-abbrev pub vault_in : {V : Type 0} → (V → VaultView) → VaultView → Option V → VaultView
-vault_in view held None = held
-vault_in view held (Some vault) = view vault
-
--- what it left, by what goes back
-abbrev pub exit_of : {F V : Type 0} → (F → FolderView) → (V → VaultView) → OpenerView → List F → Option V → SinkView → Exit
-exit_of folder_view vault_view opener folders vault out =
-    at_exit opener (is_some vault) (world_view (map folder_view folders) (vault_in vault_view opener.vault vault) out)
-
--- By the levels of a setup: those of the vault that the opener holds, and of the one that goes back.
-abbrev pub entry_by : Option SetupValue → Entry → Entry
-entry_by setup before = record before { opener = opener_by setup before.opener }
-
-abbrev pub exit_by : Option SetupValue → Exit → Exit
-exit_by setup exit = record exit { opener = opener_by setup exit.opener; after = record exit.after { vault = by_setup setup exit.after.vault } }
-
--- by the levels that the configuration of the entry says
-abbrev pub entry_seen : Entry → Entry
-entry_seen before = entry_by (said_by before.opener.config) before
-
-abbrev pub exit_seen : Entry → Exit → Exit
-exit_seen before exit = exit_by (said_by before.opener.config) exit
-
--- What is said of a run by its levels.
-abbrev pub ByLevels : (Entry → Exit → ℕ → Type 0) → Entry → Exit → ℕ → Type 0
-ByLevels P before exit status = P (entry_seen before) (exit_seen before exit) status
 
 -- nothing was opened, told or printed, and the opener holds what it held, the vault too
 pub record IsRefused (before : Entry) (exit : Exit) (why : Refusal) (told : List Event) : Type 0 where
@@ -204,8 +136,8 @@ pub record IsRun (before : Entry) (exit : Exit) (setup : SetupValue) (ending : E
   pub keeps : Keeps did given (world_of exit.after)
   -- what every stop leaves, and what reads give; it began with nothing unsynced
   pub settled : IsTrue before.opener.tells → IsSettled before.opener.vault
-  pub changes : IsTrue before.opener.tells → ChangesBy (may_stand did) before.opener.vault exit.after.vault
-  pub ends : IsTrue before.opener.tells → IsTrue before.opener.vault.tells → Holds (stands_after did before.opener.vault.files) exit.after.vault
+  pub changes : IsTrue before.opener.tells → ChangesBy (effect did).may_stand before.opener.vault exit.after.vault
+  pub ends : IsTrue before.opener.tells → IsTrue before.opener.vault.tells → Holds ((effect did).stands_after before.opener.vault.files) exit.after.vault
 
 -- The words ask for an exercise, and it was made. The opener was asked for nothing and holds what it held, and no event was told.
 pub record IsExercised (before : Entry) (exit : Exit) (answer : Answer) (told : List Event) : Type 0 where

@@ -1,12 +1,9 @@
 -- What a run leaves that was asked to scrub an array.
-use Rattle.std.specs.Prelude.{◌≡◌, ◌≢◌, ℕ, List, [], ◌++◌, ◌<◌, length, Bool, false, IsTrue, Ok, sum_by}
+use Rattle.std.specs.Prelude.{◌≡◌, ◌≢◌, ℕ, List, [], ◌++◌, ◌<◌, length, Bool, false, IsTrue, sum_by}
 use Rattle.content_file.specs.Save.{HasSaved}
 use Rattle.content_file.specs.Spelling.{spelling}
 use Rattle.disk_model.specs.Cause.{Rose, RoseBy}
 use Rattle.disk_model.specs.Vault.{Holds, copies_of}
-use Rattle.snap_config.specs.declared.options.Command.TheVariants as commands
-use Rattle.snap_config.specs.declared.options.Options.{Options}
-use Rattle.array_setup.specs.declared.ways.ScrubWay.{ScrubWay}
 use Rattle.snap_report.specs.EndLines.{scrub_text}
 use Rattle.snap_report.specs.EventLines.{lines_of}
 use Rattle.snap_report.specs.Telling.{Tells, between}
@@ -18,10 +15,9 @@ use Rattle.snap_scrub.specs.Reading.{cells_of, unread_levels}
 use Rattle.snap_sync.specs.Part.{AllTell, NoneRose, readings_by, trees_of}
 use Rattle.stripe_findings.specs.Reading.{unread_cells}
 use Rattle.stripe_reader.specs.Columns.{folder_at}
-use Rattle.snap_top.specs.Ended.{IsEndStatus, WentToItsEnd}
-use Rattle.snap_top.specs.Moment.{IsScrubOf, TellsVault}
-use Rattle.snap_top.specs.Opening.{asked_by}
-use Rattle.snap_top.specs.Run.{Entry, Exit}
+use Rattle.snap_top.specs.Output.{IsEndStatus}
+use Rattle.snap_top.specs.Began.{IsScrubOf}
+use Rattle.snap_top.specs.Entry.{Entry, Exit}
 use Rattle.snap_top.specs.Scrub.{MayStandMarked, ScrubRun, marked_table}
 
 -- all that a scrub found
@@ -49,8 +45,3 @@ pub record EndsScrubbed (before : Entry) (exit : Exit) (status : ℕ) : Type 0 w
       (between false before.out) (between output_failed exit.after.out)
   pub status_is : IsEndStatus status output_failed (events_scrubbed run ≡ [])
   pub output : IsTrue output_failed → Rose before.out.faults exit.after.out.faults
-
--- so a scrub ends that was asked for and went to its end, whatever the output did, and whether or not the folders tell what they hold
-abbrev pub ScrubsEnd : Entry → Exit → ℕ → Type 0
-ScrubsEnd before exit status = TellsVault before → WentToItsEnd before exit status → (asked : Options) (way : ScrubWay)
-    → asked_by before.texts ≡ Ok asked → asked.command ≡ commands.Scrub way → EndsScrubbed before exit status

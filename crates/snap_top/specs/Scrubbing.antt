@@ -19,7 +19,8 @@ use Rattle.snap_scrub.specs.Plan.{plan_of}
 use Rattle.snap_scrub.specs.Reading.{HasLevels, ScrubReading, cells_of, unread_levels}
 use Rattle.stripe_findings.specs.Reading.{AreRead, stripes_of}
 use Rattle.snap_top.specs.Scrub.{ScrubRun}
-use Rattle.snap_top.specs.Task.{Task, Did, reads_only, scrubs, Left, Prints}
+use Rattle.snap_top.specs.Task.{Task, Left, Prints}
+use Rattle.snap_top.specs.Did.{Did, reads_only, scrubs}
 use Rattle.snap_top.specs.Views.{World, view_of}
 
 -- the scrub as a whole, by what was read

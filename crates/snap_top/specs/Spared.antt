@@ -1,5 +1,5 @@
 -- What a fix leaves alone, wherever it is stopped: blocks of cells, other files, and levels.
-use Rattle.std.specs.Prelude.{◌≡◌, ◌⊎◌, ℕ, ◌+◌, ◌*◌, ◌<◌, length, is_some, true, false, Some, Contains}
+use Rattle.std.specs.Prelude.{◌≡◌, ◌⊎◌, ℕ, ◌+◌, ◌*◌, ◌<◌, List, length, is_some, true, false, Some, Contains}
 use Rattle.disk_model.specs.Files.{Files, parity_of}
 use Rattle.disk_model.specs.Tree.{File, Tree}
 use Rattle.file_restorer.specs.Mending.{cell_path}
@@ -14,9 +14,7 @@ use Rattle.stripe_examiner.specs.Facts.{StripeFacts, damaged_at}
 use Rattle.repair_scope.specs.Plan.{FixPlan, cell_at, entry_at, selects_cell}
 use Rattle.stripe_examiner.specs.Showing.{known_block}
 use Rattle.snap_top.specs.Fix.{FixRun, MayStandFixed}
-use Rattle.snap_top.specs.Standing.{Standing}
 use Rattle.snap_top.specs.Stopping.{SparesFiles, stop_of}
-use Rattle.snap_top.specs.Task.{Did, fixes, reads_only, scrubs, syncs}
 
 -- ---- cells
 
@@ -54,15 +52,8 @@ SparesLevels run old new = (r stripe p x : ℕ) → IsLevelLeftAlone run r strip
 -- ---- all of it
 
 -- Of each column cells, and files of other records or of none, are left alone; and so are levels. The vault changed only as by a fix.
-pub record SparesRest (run : FixRun) (standing next : Standing) : Type 0 where
-  pub cells : (d : ℕ) → d < length standing.trees → SparesCells run d (tree_at standing.trees d) (tree_at next.trees d)
-  pub files : (d : ℕ) → d < length standing.trees → SparesFiles (stop_of run d (tree_at standing.trees d) (tree_at next.trees d))
-  pub levels : SparesLevels run standing.files next.files
-  pub vault : MayStandFixed run standing.files next.files
-
--- so it is where a run is a fix
-abbrev pub SparesBy : Did → Standing → Standing → Type 0
-SparesBy reads_only standing next = Unit {0}
-SparesBy (syncs failed run) standing next = Unit {0}
-SparesBy (fixes failed run) standing next = SparesRest run standing next
-SparesBy (scrubs failed run) standing next = Unit {0}
+pub record SparesRest (run : FixRun) (trees left : List Tree) (old new : Files) : Type 0 where
+  pub cells : (d : ℕ) → d < length trees → SparesCells run d (tree_at trees d) (tree_at left d)
+  pub files : (d : ℕ) → d < length trees → SparesFiles (stop_of run d (tree_at trees d) (tree_at left d))
+  pub levels : SparesLevels run old new
+  pub vault : MayStandFixed run old new

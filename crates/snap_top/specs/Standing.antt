@@ -1,24 +1,20 @@
 -- What stands between the runs over an array, what may happen to it, and what stands then: a history.
-use Rattle.std.specs.Prelude.{◌≡◌, ℕ, ◌<◌, List, [], ◌∷◌, length, false}
+use Rattle.std.specs.Prelude.{◌≡◌, ℕ, ◌<◌, List, [], ◌∷◌, length, Bool, false, true}
 use Rattle.disk_model.specs.Files.{Files}
 use Rattle.disk_model.specs.Folder.{FolderView}
 use Rattle.disk_model.specs.Opener.{OpenerView, folder_held}
 use Rattle.disk_model.specs.Sink.{SinkView}
 use Rattle.disk_model.specs.Tree.{IsTree, Tree}
 use Rattle.disk_model.specs.Vault.{IsSettled, VaultView, copies_of}
-use Rattle.snap_fix.specs.Fixing.{facts_of}
-use Rattle.snap_fix.specs.Genuine.{AreGenuine, held_row}
-use Rattle.snap_sync.specs.Images.{StandsBy}
 use Rattle.snap_sync.specs.Part.{tree_at, trees_of}
-use Rattle.snap_top.specs.History.{IsChange, LastSynced, synced_by}
-use Rattle.snap_top.specs.Moment.{StandsIn, TellsAll}
-use Rattle.snap_top.specs.Resumed.{RunOf, end_of, entry_of}
-use Rattle.snap_top.specs.Run.{Entry, Exit}
+use Rattle.snap_top.specs.LastSynced.{IsChange, LastSynced, synced_by}
+use Rattle.snap_top.specs.Stands.{StandsIn, TellsAll}
+use Rattle.snap_top.specs.RunOf.{end_of, entry_of, RunOf}
+use Rattle.snap_top.specs.Entry.{Entry, Exit}
 use Rattle.snap_top.specs.Step.{RunStep}
 use Rattle.snap_top.specs.Stopping.{FolderStandsIn}
 use Rattle.snap_top.specs.Sync.{HoldsNoContent}
-use Rattle.snap_top.specs.Task.{Did, fixes, syncs}
-use Rattle.parity_writer.specs.Sound.{Closed}
+use Rattle.snap_top.specs.Effect.{effect}
 
 -- ---- what stands
 
@@ -64,22 +60,11 @@ pub record BeginsOver (standing : Standing) (before : Entry) : Type 0 where
   pub copies : copies_of before.opener.vault ≡ standing.copies
   pub files : before.opener.vault.files ≡ standing.files
 
--- The trees after it stay, as they do at each moment of it over folders that tell their calls (`TreesStay`). Only where it is a fix, each is one
--- that its calls of that folder leave, or a stop within them.
-abbrev pub LeavesTrees : Did → Entry → Exit → List Tree → List Tree → Type 0
-LeavesTrees (fixes failed run) before exit old new =
-    (length new ≡ length old) × ((d : ℕ) → d < length old → FolderStandsIn before exit d (tree_at new d))
-LeavesTrees _ before exit old new = new ≡ old
-
--- So many of the stripes that a sync read have their rows in parity when it is stopped or ends; all others close none.
-abbrev pub HasClosed : Did → ℕ → Files → Files → Type 0
-HasClosed (syncs failed run) count old new = StandsBy run.plan run.readings count old new
-HasClosed _ count old new = count ≡ 0
-
--- no block that a fix met has a recorded hash by chance
-abbrev pub MeetsNoChance : Did → Closed → Type 0
-MeetsNoChance (fixes failed run) snapshot = AreGenuine run.plan (held_row run.plan.table snapshot) (facts_of run.stripes)
-MeetsNoChance _ snapshot = Unit {0}
+-- The trees after it stay, as they do at each moment of it over folders that tell their calls (`TreesStay`). Only where it writes files of folders,
+-- each is one that its calls of that folder leave, or a stop within them.
+abbrev pub LeavesTrees : (writes_files : Bool) → Entry → Exit → List Tree → List Tree → Type 0
+LeavesTrees true before exit old new = (length new ≡ length old) × ((d : ℕ) → d < length old → FolderStandsIn before exit d (tree_at new d))
+LeavesTrees false before exit old new = new ≡ old
 
 -- ---- a history
 
@@ -100,12 +85,12 @@ module _ {O F V W : Type 0} (opener_view : O → OpenerView) (folder_view : F �
   pub record GoesOver (run : RunOf O F V W) (standing next : Standing) : Type 0 where
     pub over : BeginsOver standing (before_of run)
     pub step : RunStep (before_of run) (after_of run) run.status
-    pub genuine : MeetsNoChance step.always.did standing.last.snapshot
+    pub genuine : (effect step.always.did).meets_no_chance standing.last.snapshot
     pub array : next ≡ record standing { trees = next.trees; files = next.files; last = next.last }
     pub files : StandsIn (before_of run) (after_of run) next.files
-    pub trees : LeavesTrees step.always.did (before_of run) (after_of run) standing.trees next.trees
+    pub trees : LeavesTrees (effect step.always.did).writes_files (before_of run) (after_of run) standing.trees next.trees
     pub count : ℕ
-    pub closed : HasClosed step.always.did count standing.files next.files
+    pub closed : (effect step.always.did).has_closed count standing.files next.files
     pub last : next.last ≡ synced_by step.always.did count standing.last
 
   -- by what happens

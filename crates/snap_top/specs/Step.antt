@@ -5,17 +5,15 @@ use Rattle.disk_model.specs.Tree.{Tree}
 use Rattle.snap_config.specs.declared.options.Command.{Command}
 use Rattle.snap_config.specs.declared.options.Command.TheVariants as commands
 use Rattle.snap_config.specs.declared.options.Options.{Options}
-use Rattle.snap_sync.specs.Part.{AllTell}
-use Rattle.snap_top.specs.Complete.{NothingBroke}
-use Rattle.snap_top.specs.Ended.{has_ended}
-use Rattle.snap_top.specs.Moment.{EndsInPart, HoldsFresh, IsSoundAlways}
-use Rattle.snap_top.specs.Naming.{ChecksEnd}
-use Rattle.snap_top.specs.Opening.{asked_by}
-use Rattle.snap_top.specs.Restoring.{EndsFixed}
-use Rattle.snap_top.specs.Run.{Entry, Exit}
-use Rattle.snap_top.specs.Scrubbed.{EndsScrubbed}
+use Rattle.snap_top.specs.Unbroken.{NothingBroke}
+use Rattle.snap_top.specs.Effect.{effect}
+use Rattle.snap_top.specs.Moment.{IsSoundAlways}
+use Rattle.snap_top.specs.Stands.{HoldsFresh}
+use Rattle.snap_top.specs.AsAsked.{ChecksEnd}
+use Rattle.snap_top.specs.Asked.{asked_by}
+use Rattle.snap_top.specs.Entry.{Entry, Exit}
 use Rattle.snap_top.specs.Stopping.{FolderStandsIn}
-use Rattle.snap_top.specs.Task.{Did, fixes, folders_after, reads_only, scrubs, syncs}
+use Rattle.snap_top.specs.Did.{reads_only}
 
 -- the commands that change files of the vault or of the folders
 abbrev pub ChangesFiles : Command → Type 0
@@ -24,32 +22,24 @@ ChangesFiles (commands.Scrub way) = Unit {0}
 ChangesFiles (commands.Fix selection) = Unit {0}
 ChangesFiles _ = ⊥
 
--- what a sync, a fix or a scrub leaves that did not break off; of a sync and a fix this speaks of what the folders hold
-abbrev pub EndsBy : Did → Entry → Exit → ℕ → Type 0
-EndsBy (syncs failed run) before exit status = AllTell before.opener.folders → (ends : EndsInPart before exit status) × (ends.run ≡ run)
-EndsBy (fixes failed run) before exit status = AllTell before.opener.folders → (ends : EndsFixed before exit status) × (ends.run ≡ run)
-EndsBy (scrubs failed run) before exit status = (ends : EndsScrubbed before exit status) × (ends.run ≡ run)
-EndsBy reads_only before exit status = Unit {0}
-
--- The files of a folder at each moment of a run that is no fix are those at its beginning: at its end, and at a stop before, if the folder
--- tells its calls (`FolderStandsIn`).
-abbrev pub LeavesEachTree : Did → Entry → Exit → Type 0
-LeavesEachTree (fixes failed run) before exit = Unit {0}
-LeavesEachTree _ before exit = (d : ℕ) (left : Tree) → FolderStandsIn before exit d left → left ≡ (folder_held before.opener d).tree
+-- The files of a folder at each moment of a run are those at its beginning: at its end, and at a stop before, if the folder tells its calls
+-- (`FolderStandsIn`).
+abbrev pub LeavesEachTree : Entry → Exit → Type 0
+LeavesEachTree before exit = (d : ℕ) (left : Tree) → FolderStandsIn before exit d left → left ≡ (folder_held before.opener d).tree
 
 -- What a run did, and what stands at each moment of it. What was opened is only read, or changed as that says. Where nothing was
--- opened, the opener holds what it held. With status 2 or 5 it only read. A sync, a fix or a scrub with status 0 or 1 did not break off,
+-- opened, the opener holds what it held. Where it writes no files of folders, these stay at each moment. With status 2 or 5 it only read. A sync, a fix or a scrub with status 0 or 1 did not break off,
 -- nor does one with status 3 where nothing failed but the output and readings; and so it ends by that. A check that went to its end
 -- names what is lost, an audit finds what is changed, and a list, a status and a list of duplicates print their texts.
 pub record RunStep (before : Entry) (exit : Exit) (status : ℕ) : Type 0 where
   pub always : IsSoundAlways before exit status
-  pub folders : exit.has_vault ≡ true → folders_after always.did before.opener.folders exit.after.folders
-  pub stops : exit.has_vault ≡ true → LeavesEachTree always.did before exit
+  pub folders : exit.has_vault ≡ true → (effect always.did).folders_after before.opener.folders exit.after.folders
+  pub stops : exit.has_vault ≡ true → (effect always.did).writes_files ≡ false → LeavesEachTree before exit
   pub unopened : exit.has_vault ≡ false → HoldsSame before.opener exit.opener
   pub refused : (status ≡ 2) ⊎ (status ≡ 5) → always.did ≡ reads_only
   pub done : (asked : Options) → asked_by before.texts ≡ Ok asked → ChangesFiles asked.command
-      → (status ≤ 1) ⊎ ((status ≡ 3) × NothingBroke before exit) → has_ended always.did ≡ true
-  pub at_end : has_ended always.did ≡ true → EndsBy always.did before exit status
+      → (status ≤ 1) ⊎ ((status ≡ 3) × NothingBroke before exit) → (effect always.did).has_ended ≡ true
+  pub at_end : (effect always.did).has_ended ≡ true → (effect always.did).ends before exit status
   pub checked : ChecksEnd before exit status
 
 -- so it is of each run over a vault that was opened anew, where the opener tells what it holds and the vault tells its files

@@ -10,7 +10,7 @@ use Rattle.snap_fix.specs.Mended.{Mended}
 use Rattle.stripe_examiner.specs.Place.{starts_of}
 use Rattle.snap_fix.specs.Stopped.{FixStop, IsNoneOf, StandsSpared, file_placed, path_at, records_of}
 use Rattle.snap_top.specs.Fix.{FixRun}
-use Rattle.snap_top.specs.Run.{Entry, Exit}
+use Rattle.snap_top.specs.Entry.{Entry, Exit}
 use Rattle.snap_top.specs.Undamaged.{was_read}
 use Rattle.snap_top.specs.Views.{calls_since, folder_at}
 

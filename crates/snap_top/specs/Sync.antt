@@ -1,15 +1,17 @@
 -- The sync of a run as a whole, said without what else the run touches: so it is said of one run after another.
-use Rattle.std.specs.Prelude.{◌≡◌, ◌⊎◌, ℕ, ◌<◌, List, [], ◌∷◌, None, Some}
-use Rattle.content_file.specs.Spelling.{HoldsTable, IsContent}
+use Rattle.std.specs.Prelude.{◌≡◌, ◌⊎◌, ℕ, ◌<◌, List, None, Some, length, Bool}
+use Rattle.content_file.specs.Spelling.{HoldsTable, IsContent, spelling}
 use Rattle.disk_model.specs.Files.{Files, content_of}
-use Rattle.disk_model.specs.Tree.{Tree}
 use Rattle.file_table.specs.Table.{TableValue}
 use Rattle.file_table.specs.Valid.{IsValid}
 use Rattle.array_setup.specs.Setup.{SetupValue}
-use Rattle.snap_sync.specs.Images.{MayStand}
-use Rattle.snap_sync.specs.Part.{AllTell, IsListedRun, SyncRun, run_trees}
+use Rattle.snap_sync.specs.Images.{HasParityAfter}
+use Rattle.snap_sync.specs.Part.{IsListedRun, SyncRun}
 use Rattle.snap_sync.specs.Soundness.{StandsOn}
 use Rattle.snap_top.specs.Array.{empty_table}
+use Rattle.content_file.specs.Save.{HasSaved}
+use Rattle.snap_sync.specs.Resumed.{EndsAs}
+use Rattle.snap_sync.specs.Closing.{closed}
 
 -- ---- the table that a run begins with, where no copy's reading fails
 
@@ -46,31 +48,22 @@ pub record SyncsOver (copies : ℕ) (files : Files) (run : SyncRun) : Type 0 whe
   pub stands : StandsOn run.plan run.loaded files
   pub copies_are : run.plan.copies ≡ copies
 
--- and no copy's reading failed
-pub record SyncsFrom (seed : List ℕ) (copies : ℕ) (files : Files) (run : SyncRun) : Type 0 where
-  pub over : SyncsOver copies files run
-  pub begins : BeginsFrom run.setup seed copies files run.loaded
+-- ---- what a sync leaves
 
--- ---- one sync after another, each of which is stopped
+-- What two syncs left: each copy of both spells a table, and these are the same but for the times of the last checks; parity is the same in all
+-- stripes of the table, but for what was changed from outside.
+pub record EndAlike (copies : ℕ) (is_changed : ℕ → ℕ → Bool) (one other : Files) : Type 0 where
+  pub table : TableValue
+  pub other_table : TableValue
+  pub saved : HasSaved copies (spelling table) one
+  pub other_saved : HasSaved copies (spelling other_table) other
+  pub alike : EndsAs table is_changed table other_table one other
 
--- a sync, and the files that a stop at some moment of it leaves
-pub record Stop : Type 0 where
-  pub run : SyncRun
-  pub left : Files
+-- the table of a sync that read all its stripes
+abbrev pub end_table : SyncRun → TableValue
+end_table run = closed run.plan.now run.plan.start run.readings
 
--- by this setup, and over folders that tell their trees, which are these
-pub record IsOfArray (setup : SetupValue) (trees : List Tree) (run : SyncRun) : Type 0 where
-  pub setup_is : run.setup ≡ setup
-  pub told : AllTell run.folders
-  pub trees_are : run_trees run ≡ trees
-
-pub record StopsFrom (setup : SetupValue) (trees : List Tree) (seed : List ℕ) (copies : ℕ) (files : Files) (stop : Stop) : Type 0 where
-  pub syncs : SyncsFrom seed copies files stop.run
-  pub of_array : IsOfArray setup trees stop.run
-  pub moment : MayStand stop.run.plan stop.run.readings files stop.left
-
--- Each begins with what the one before it left.
-abbrev pub AreStopped : SetupValue → List Tree → List ℕ → ℕ → List Stop → Files → Files → Type 0
-AreStopped setup trees seed copies [] files left = left ≡ files
-AreStopped setup trees seed copies (stop ∷ stops) files left =
-    StopsFrom setup trees seed copies files stop × AreStopped setup trees seed copies stops stop.left left
+-- What a sync that ended leaves: each copy spells its table, and parity has the sums of the stripes that are synced now.
+pub record LeavesSynced (run : SyncRun) (old new : Files) : Type 0 where
+  pub saved : HasSaved run.plan.copies (spelling (end_table run)) new
+  pub parity : HasParityAfter run.plan run.readings (length run.readings) old new

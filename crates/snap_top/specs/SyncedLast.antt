@@ -4,11 +4,12 @@ use Rattle.content_file.specs.Save.{HasSaved}
 use Rattle.content_file.specs.Spelling.{spelling}
 use Rattle.stripe_findings.specs.Reading.{StripeReading, is_verified, row_of}
 use Rattle.snap_sync.specs.Part.{SyncRun}
-use Rattle.snap_top.specs.History.{LastSynced, synced_by}
-use Rattle.snap_top.specs.Moment.{EndsInPart}
-use Rattle.snap_top.specs.Run.{Entry, Exit}
+use Rattle.snap_top.specs.LastSynced.{LastSynced, synced_by}
+use Rattle.snap_top.specs.InPart.{EndsInPart}
+use Rattle.snap_top.specs.Entry.{Entry, Exit}
 use Rattle.snap_top.specs.Standing.{Standing}
-use Rattle.snap_top.specs.Task.{Did, end_table, syncs}
+use Rattle.snap_top.specs.Did.{Did, syncs}
+use Rattle.snap_top.specs.Sync.{end_table}
 use Rattle.parity_writer.specs.Sound.{last_row}
 
 -- the row last synced of a verified stripe is the one that the sync read, and no level of its table is changed there from outside

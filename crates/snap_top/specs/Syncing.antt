@@ -27,7 +27,8 @@ use Rattle.snap_sync.specs.Work.{more_findings}
 use Rattle.snap_sync.specs.declared.fault.SyncFault.{SyncFault}
 use Rattle.snap_sync.specs.declared.fault.SyncFault.TheVariants.{Scan, Run}
 use Rattle.stripe_reader.specs.WindowValue.{stripe_count}
-use Rattle.snap_top.specs.Task.{Task, Did, reads_only, syncs, Left, Prints}
+use Rattle.snap_top.specs.Task.{Task, Left, Prints}
+use Rattle.snap_top.specs.Did.{Did, reads_only, syncs}
 use Rattle.snap_top.specs.Views.{World, AreAllOpen, view_of}
 
 -- folders and a vault that were opened for this configuration, and a table of its array

@@ -1,5 +1,5 @@
 -- What stands of files where some were taken away.
-use Rattle.std.specs.Prelude.{◌≡◌, ◌⊎◌, ℕ, List, Bool, true, false, None}
+use Rattle.std.specs.Prelude.{◌≡◌, ◌⊎◌, ℕ, List, true, false, None}
 use Rattle.disk_model.specs.Tree.{Tree, file_of, path_of}
 use Rattle.snap_sync.specs.Part.{tree_at}
 

@@ -4,7 +4,6 @@ use Rattle.disk_model.specs.Folder.{FolderView, FolderCall, FolderDone, SomeFold
 use Rattle.disk_model.specs.Sink.{SinkView, SinkGoesOn}
 use Rattle.disk_model.specs.Stopped.{EachCall, written_path}
 use Rattle.disk_model.specs.Vault.{VaultView, VaultState, SomeCalls, state_of, no_images}
-use Rattle.snap_report.specs.Answer.{Outside}
 
 -- The folders, the vault and the output, but for what a stop may leave of the vault: so a relation can hold it.
 pub record World : Type 0 where
@@ -38,10 +37,6 @@ view_of state = record {
   calls = state.calls;
   images = no_images;
 }
-
--- what is outside of an engine, as the causes of its answer speak of it
-abbrev pub outside_of : World → Outside
-outside_of world = record { folders = world.folders; vault = world.vault; output_faults = world.out.faults }
 
 abbrev pub folder_at : List FolderView → ℕ → FolderView
 folder_at folders d = slice_index_or folders d (quiet_folder 0 false)

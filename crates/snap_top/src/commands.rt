@@ -6,7 +6,8 @@ ghost use Rattle.snap_report.specs.ListText.{list_text};
 ghost use Rattle.snap_report.specs.StatusText.{bad_in, status_text};
 ghost use Rattle.snap_report.specs.Telling.{Tells, between};
 ghost use Rattle.snap_top.specs.Does.{IsDone};
-ghost use Rattle.snap_top.specs.Task.{Prints, WorksOnArray, task_of};
+ghost use Rattle.snap_top.specs.Task.{Prints, task_of};
+ghost use Rattle.snap_top.specs.Asked.{WorksOnArray};
 ghost use Rattle.snap_top.specs.Syncing.{IsOpened};
 ghost use Rattle.snap_top.specs.Views.{world_view};
 

@@ -1,11 +1,13 @@
 //! What a run read and printed that broke off. The calls do nothing: their contracts are laws.
 ghost use Rattle.std.specs.Prelude.{◌≡◌, ◌++◌, List};
-ghost use Rattle.snap_top.specs.Alike.{HoldAlike, NothingRose, SeenAlike, seen_by};
+ghost use Rattle.snap_top.specs.Alike.{HoldAlike, SeenAlike, seen_by};
+ghost use Rattle.snap_top.specs.Unbroken.{NothingRose};
 ghost use Rattle.snap_top.specs.BrokeOff.{BrokeOff, EndedEarly, FixBrokeOff, PrintsFront, ReadsRight, RoseOnce, RoseOnceBy, ScrubBrokeOff, SyncBrokeOff, answered, seen_so_far};
 ghost use Rattle.snap_top.specs.FixedAlike.{KeepStampsAlike};
 ghost use Rattle.snap_top.specs.LeftAlike.{AskSame};
-ghost use Rattle.snap_top.specs.Moment.{EndsInPart, TellsAll};
-ghost use Rattle.snap_top.specs.Resumed.{RunOf, end_of, entry_of};
+ghost use Rattle.snap_top.specs.InPart.{EndsInPart};
+ghost use Rattle.snap_top.specs.Stands.{TellsAll};
+ghost use Rattle.snap_top.specs.RunOf.{end_of, entry_of, RunOf};
 ghost use Rattle.snap_top.specs.Restoring.{EndsFixed, events_in};
 ghost use Rattle.snap_top.specs.Scrubbed.{EndsScrubbed, events_scrubbed};
 ghost use Rattle.stripe_findings.specs.Findings.{events_of};

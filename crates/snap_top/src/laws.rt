@@ -22,26 +22,33 @@ ghost use Rattle.snap_sync.specs.Part.{IsFullSync, SyncRun};
 ghost use Rattle.snap_sync.specs.Resumed.{EndsAs};
 ghost use Rattle.snap_sync.specs.Soundness.{AreSound};
 ghost use Rattle.snap_config.specs.declared.options.Command.{Command};
-ghost use Rattle.snap_top.specs.Alike.{AskAlike, CheckAlike, FindAlike, FixAlike, FixFindsAlike, HoldAlike, NothingRose, ReadAlike, SeenAlike, seen_by};
+ghost use Rattle.snap_top.specs.Alike.{AskAlike, CheckAlike, FindAlike, FixAlike, FixFindsAlike, HoldAlike, ReadAlike, SeenAlike, seen_by};
+ghost use Rattle.snap_top.specs.Unbroken.{NothingRose};
 ghost use Rattle.snap_top.specs.Check.{CheckRun};
 ghost use Rattle.snap_top.specs.Fix.{FixRun};
 ghost use Rattle.snap_top.specs.FixedAlike.{FixesAlike, KeepStampsAlike};
 ghost use Rattle.snap_top.specs.Headline.{Headline};
-ghost use Rattle.snap_top.specs.History.{AreSoundBy, IsHistory as IsHistoryOfRuns, LastSynced, StaysSound, Step};
+ghost use Rattle.snap_top.specs.History.{IsHistory as IsHistoryOfRuns, StaysSound, Step};
+ghost use Rattle.snap_top.specs.LastSynced.{AreSoundBy, LastSynced};
 ghost use Rattle.snap_top.specs.LeftAlike.{AskSame, PrintAlike, ScrubsAlike, SyncsAlike};
-ghost use Rattle.snap_top.specs.Moment.{EndsInPart, IsDidOf, IsFixOf, IsSoundAlways, LoadsWell, TellsAll};
+ghost use Rattle.snap_top.specs.Moment.{IsSoundAlways};
+ghost use Rattle.snap_top.specs.Effect.{effect};
+ghost use Rattle.snap_top.specs.InPart.{EndsInPart};
+ghost use Rattle.snap_top.specs.Began.{IsFixOf};
+ghost use Rattle.snap_top.specs.Stands.{TellsAll};
 ghost use Rattle.snap_top.specs.Naming.{HasChecked};
 ghost use Rattle.snap_top.specs.NextFix.{IsNextFix};
 ghost use Rattle.snap_top.specs.Printing.{EndsPrinted};
 ghost use Rattle.snap_top.specs.Restoring.{EndsFixed, Restores};
-ghost use Rattle.snap_top.specs.Resumed.{AreStoppedRuns, EndAlike, EndsClean, RunOf, StoppedRun, end_of, entry_of};
+ghost use Rattle.snap_top.specs.Resumed.{AreStoppedRuns, EndsClean, AreStopped, IsOfArray, Stop, SyncsFrom};
+ghost use Rattle.snap_top.specs.RunOf.{end_of, entry_of, RunOf, StoppedRun};
 ghost use Rattle.snap_top.specs.Scrubbed.{EndsScrubbed};
 ghost use Rattle.snap_top.specs.Spared.{SparesCells};
-ghost use Rattle.snap_top.specs.Standing.{BeginsOver, GoesOver, IsHistory, IsOrigin, MeetsNoChance, Stage, Standing, after_of, before_of};
+ghost use Rattle.snap_top.specs.Standing.{BeginsOver, GoesOver, IsHistory, IsOrigin, Stage, Standing, after_of, before_of};
 ghost use Rattle.snap_top.specs.Stopping.{FindsNoLess, FolderStandsIn, SparesFiles, stop_of};
-ghost use Rattle.snap_top.specs.Sync.{AreStopped, IsOfArray, Stop, SyncsFrom};
+ghost use Rattle.snap_top.specs.Sync.{EndAlike};
 ghost use Rattle.snap_top.specs.Taken.{OnlyTakenAway};
-ghost use Rattle.snap_top.specs.Task.{Did, syncs};
+ghost use Rattle.snap_top.specs.Did.{Did, syncs};
 ghost use Rattle.snap_top.specs.Undamaged.{HasEnough, IsRecoverable, IsUndamaged};
 ghost use Rattle.snap_top.specs.Views.{folder_at};
 
@@ -328,13 +335,13 @@ pub fn what_a_run_loaded_is_known<O: Opener, F: Folder, V: Vault, W: Sink>()
         (always : IsSoundAlways (entry_of O.view W.view run) (end_of O.view F.view V.view W.view run) run.status) →
         ((copy : ℕ) → ¬ (HasFailed (entry_of O.view W.view run).opener.vault
         (end_of O.view F.view V.view W.view run).after.vault copy)) →
-        LoadsWell (entry_of O.view W.view run) (end_of O.view F.view V.view W.view run) always.did always.is_did }
+        (effect always.did).loads_well (entry_of O.view W.view run) (end_of O.view F.view V.view W.view run) always.is_did }
     ensures once { (run : RunOf O F V W)
         (always : IsSoundAlways (entry_of O.view W.view run) (end_of O.view F.view V.view W.view run) run.status)
         (sync : SyncRun) → always.did ≡ syncs true sync →
         ¬ (RoseBy 2 (entry_of O.view W.view run).opener.vault.faults
         (end_of O.view F.view V.view W.view run).after.vault.faults) →
-        LoadsWell (entry_of O.view W.view run) (end_of O.view F.view V.view W.view run) always.did always.is_did }
+        (effect always.did).loads_well (entry_of O.view W.view run) (end_of O.view F.view V.view W.view run) always.is_did }
 {}
 
 /// The headline. Whatever happened to an array since it had no content, by runs of any commands, each of which ended or was
@@ -378,8 +385,8 @@ pub fn a_fix_of_what_is_left_meets_no_chance<O: Opener, F: Folder, V: Vault, W: 
     ensures { (once fix : RunOf O F V W) (first next : Standing) (trees : List Tree) (did : Did) → IsOrigin first →
         GoesOver O.view F.view V.view W.view once first next → OnlyTakenAway next.trees trees →
         BeginsOver (record next { trees = trees }) (before_of O.view F.view V.view W.view fix) →
-        IsDidOf (before_of O.view F.view V.view W.view fix) (after_of O.view F.view V.view W.view fix) did →
-        MeetsNoChance did next.last.snapshot }
+        (effect did).is_of (before_of O.view F.view V.view W.view fix) (after_of O.view F.view V.view W.view fix) →
+        (effect did).meets_no_chance next.last.snapshot }
 {
     headline::<O, F, V, W>();
     undamaged_levels_restore::<O, F, V, W>();

@@ -2,7 +2,7 @@
 //!
 //! Start at `run` in `running.rt`. What it leaves and why is `specs/Run.antt`, what each command does `specs/Does.antt` (a sync:
 //! `specs/Syncing.antt`, a scrub: `specs/Scrubbing.antt`), how it is called and said `specs/End.antt`, and what stands at each
-//! moment of it and at a sync's end `specs/Moment.antt`.
+//! moment of it `specs/Moment.antt`.
 //! Proved: the status, the line on the standard error and what is printed are those of the one end by which the run ended,
 //! and that has its cause; the opener is asked for the configuration and for what that names, once each, and for nothing
 //! else; all that was opened goes back; what every stop leaves of the vault is what the command's own definition says.
@@ -15,9 +15,8 @@
 //! leaves (`specs/Stopping.antt`); that two runs over one array find and leave the same (`specs/Alike.antt`, `LeftAlike.antt`,
 //! `FixedAlike.antt`). What one printed and read that broke off is in `fronts.rt` (`specs/BrokeOff.antt`).
 //! A command is a variant of `Command` in snap_config, a line of `DoesCommand`, an arm of `carry_out` and a lemma of
-//! `proofs/DoneLemmas.antt`. One that changes the vault otherwise is a variant of `Did` too, with a line wherever that is
-//! told apart: `may_stand`, `stands_after`, `folders_after`, `stripes_read`, `rows_closed`, `AreOfRun`, `IsDidOf`, `IsSupposed`,
-//! `has_ended`.
+//! `proofs/DoneLemmas.antt`. One that changes the vault otherwise is a variant of `Did` too, and one value in
+//! `specs/Effect.antt`: what it may leave, what stands after it, what it closed and read, and what is supposed of it.
 //! Where a level has several files, the work is done on a `SplitVault`, and all that is said of the vault is said of its
 //! levels (`specs/Levels.antt`).
 //! An exercise opens nothing: it is the crate `snap_exercise`, and what it leaves of a run is `specs/Exercising.antt`.

@@ -4,9 +4,9 @@ ghost use Rattle.disk_model.specs.Moments.{SameImages};
 ghost use Rattle.disk_model.specs.Opener.{OpenerGoesOn, HoldsSame};
 ghost use Rattle.array_setup.specs.Setup.{IsSetup, setup_value};
 ghost use Rattle.snap_config.specs.Words.{IsOptions, IsWay};
-ghost use Rattle.snap_top.specs.Task.{WorksOnArray};
+ghost use Rattle.snap_top.specs.Asked.{Says, WorksOnArray};
 ghost use Rattle.snap_top.specs.Levels.{IsOpenedBy};
-ghost use Rattle.snap_top.specs.Opening.{Says, ConfiguresNot, IsGivenFor, RefusesFor, reads_config};
+ghost use Rattle.snap_top.specs.Opening.{ConfiguresNot, IsGivenFor, RefusesFor, reads_config};
 
 use crate::Refusal;
 use crate::known::known_command;

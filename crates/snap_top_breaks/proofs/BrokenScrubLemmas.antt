@@ -20,15 +20,17 @@ use Rattle.snap_report.specs.declared.answer.RunFault.TheVariants as runs
 use Rattle.snap_report.specs.declared.events.Event.{Event}
 use Rattle.snap_sync.specs.Part.{trees_of}
 use Rattle.stripe_reader.specs.Columns.{folder_at}
-use Rattle.snap_top.specs.Alike.{HoldAlike, NothingRose}
+use Rattle.snap_top.specs.Alike.{HoldAlike}
+use Rattle.snap_top.specs.Unbroken.{NothingRose}
 use Rattle.snap_top.specs.BrokeOff.{BrokeOff, PrintsFront, RoseOnce, RoseOnceBy, ScrubBrokeOff, answered, left_of}
 use Rattle.snap_top.specs.End.{status_of}
-use Rattle.snap_top.specs.History.{LastSynced}
+use Rattle.snap_top.specs.LastSynced.{LastSynced}
 use Rattle.snap_top.specs.LeftAlike.{AskSame}
 use Rattle.snap_top.specs.Levels.{said_by}
-use Rattle.snap_top.specs.Opening.{asked_by}
-use Rattle.snap_top.specs.Resumed.{RunOf}
-use Rattle.snap_top.specs.Run.{Entry, Exit, HasAccount, IsRun, Ran, vault_in}
+use Rattle.snap_top.specs.Asked.{asked_by}
+use Rattle.snap_top.specs.RunOf.{RunOf}
+use Rattle.snap_top.specs.Run.{HasAccount, IsRun, Ran}
+use Rattle.snap_top.specs.Entry.{Entry, Exit, vault_in}
 use Rattle.snap_top.specs.Scrubbed.{EndsScrubbed, events_scrubbed}
 use Rattle.snap_top.specs.Standing.{Edits, IsOrigin, Runs, Stage, Standing, after_of, before_of, nothing_synced}
 use Rattle.snap_top.specs.Scrubbing.{ScrubBreaks}

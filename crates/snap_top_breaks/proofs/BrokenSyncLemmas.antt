@@ -12,15 +12,15 @@ use Rattle.snap_config.specs.declared.options.Command.TheVariants as commands
 use Rattle.snap_config.specs.declared.options.Options.{Options}
 use Rattle.array_setup.specs.declared.ways.SyncWay.{SyncWay}
 use Rattle.snap_sync.specs.Part.{AllTell, SyncRun}
-use Rattle.snap_top.specs.Ended.{has_ended}
+use Rattle.snap_top.specs.Effect.{effect}
 use Rattle.snap_top.specs.Levels.{said_by}
-use Rattle.snap_top.specs.Moment.{IsDidOf, IsSoundAlways, LoadsWell, StandsIn}
-use Rattle.snap_top.specs.Opening.{asked_by}
-use Rattle.snap_top.specs.Resumed.{RunOf}
-use Rattle.snap_top.specs.Run.{Entry, Exit, vault_in}
+use Rattle.snap_top.specs.Moment.{IsSoundAlways}
+use Rattle.snap_top.specs.Stands.{StandsIn}
+use Rattle.snap_top.specs.Asked.{asked_by}
+use Rattle.snap_top.specs.RunOf.{RunOf}
+use Rattle.snap_top.specs.Entry.{Entry, Exit, vault_in}
 use Rattle.snap_top.specs.Standing.{after_of, before_of, nothing_synced}
-use Rattle.snap_top.specs.Step.{EndsBy}
-use Rattle.snap_top.specs.Task.{Did, fixes, may_stand, reads_only, scrubs, syncs}
+use Rattle.snap_top.specs.Did.{Did, fixes, reads_only, scrubs, syncs}
 use Rattle.snap_top.proofs.AskedLemmas.{command_asked}
 use Rattle.snap_top_histories.specs.Lived.{files_seen}
 use Rattle.snap_top_histories.proofs.ResumedLemmas.{not_risen}
@@ -48,8 +48,8 @@ none_fresh config levels copies value fresh =
 -- what a run did that was asked for a sync, changed files, and ended with status 3, where the output did not fail
 module _ (before : Entry) (exit : Exit) (status : ℕ) (tells : IsTrue before.opener.tells) (asked : Options) (words : asked_by before.texts ≡ Ok asked) (way : SyncWay)
     (command : asked.command ≡ commands.Sync way) (three : status ≡ 3) (out : exit.after.out.faults ≡ 0) (changed : exit.after.vault.files ≢ before.opener.vault.files) where
-  pub did_break : (did : Did) → IsDidOf before exit did → ((files : Files) → StandsIn before exit files → may_stand did before.opener.vault.files files)
-      → (has_ended did ≡ true → EndsBy did before exit status) → AllTell before.opener.folders → (sync : SyncRun) × (did ≡ syncs true sync)
+  pub did_break : (did : Did) → (effect did).is_of before exit → ((files : Files) → StandsIn before exit files → (effect did).may_stand before.opener.vault.files files)
+      → ((effect did).has_ended ≡ true → (effect did).ends before exit status) → AllTell before.opener.folders → (sync : SyncRun) × (did ≡ syncs true sync)
   did_break reads_only is moments ends told = absurd (changed (moments exit.after.vault.files (inl refl)))
   did_break (syncs true sync) is moments ends told = (sync, refl)
   did_break (syncs false sync) is moments ends told =
@@ -72,7 +72,7 @@ module _ {O F V W : Type 0} (opener_view : O → OpenerView) (folder_view : F �
   -- what the law says of a sync that broke off
   abbrev pub KnowsLoaded : Type 0
   KnowsLoaded = (run : RunOf O F V W) (always : IsSoundAlways (begun run) (ended run) run.status) (sync : SyncRun) → always.did ≡ syncs true sync
-      → ¬ (RoseBy 2 (begun run).opener.vault.faults (ended run).after.vault.faults) → LoadsWell (begun run) (ended run) always.did always.is_did
+      → ¬ (RoseBy 2 (begun run).opener.vault.faults (ended run).after.vault.faults) → (effect always.did).loads_well (begun run) (ended run) always.is_did
 
   pub broken_well_loaded : (config : List ℕ) (texts : List (List ℕ)) (seed : List ℕ) (levels copies : ℕ) (value : VaultValue) (folders : List FolderView) (status : ℕ) (left_folders : List F) (left : V)
       (printed : List ℕ) → KnowsLoaded → value ≡ fresh_vault levels copies → AsksFor (commands.Sync plain_sync) texts

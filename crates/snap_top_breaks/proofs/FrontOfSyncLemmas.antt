@@ -16,15 +16,16 @@ use Rattle.snap_sync.specs.Part.{trees_of}
 use Rattle.stripe_findings.specs.Findings.{events_of}
 use Rattle.stripe_findings.specs.Reading.{StripeReading}
 use Rattle.stripe_reader.specs.Columns.{folder_at}
-use Rattle.snap_top.specs.Alike.{HoldAlike, NothingRose}
+use Rattle.snap_top.specs.Alike.{HoldAlike}
+use Rattle.snap_top.specs.Unbroken.{NothingRose}
 use Rattle.snap_top.specs.BrokeOff.{PrintsFront, RoseOnce, RoseOnceBy, SyncBrokeOff, answered, left_of}
-use Rattle.snap_top.specs.History.{LastSynced}
+use Rattle.snap_top.specs.LastSynced.{LastSynced}
 use Rattle.snap_top.specs.LeftAlike.{AskSame}
 use Rattle.snap_top.specs.Levels.{said_by}
-use Rattle.snap_top.specs.Moment.{EndsInPart}
-use Rattle.snap_top.specs.Opening.{asked_by}
-use Rattle.snap_top.specs.Resumed.{RunOf}
-use Rattle.snap_top.specs.Run.{Entry, Exit, vault_in}
+use Rattle.snap_top.specs.InPart.{EndsInPart}
+use Rattle.snap_top.specs.Asked.{asked_by}
+use Rattle.snap_top.specs.RunOf.{RunOf}
+use Rattle.snap_top.specs.Entry.{Entry, Exit, vault_in}
 use Rattle.snap_top.specs.Standing.{Edits, IsOrigin, Runs, Stage, Standing, after_of, before_of, nothing_synced}
 use Rattle.snap_top.specs.Syncing.{SyncBreaks}
 use Rattle.snap_top.specs.Views.{world_of}

@@ -6,12 +6,13 @@ use Rattle.disk_model.specs.Sink.{SinkView}
 use Rattle.disk_model.specs.Vault.{VaultView}
 use Rattle.snap_report.specs.declared.answer.RunFault.TheVariants as runs
 use Rattle.stripe_reader.specs.Columns.{folder_at}
-use Rattle.snap_top.specs.Alike.{HoldAlike, NothingRose, SeenAlike, seen_by}
+use Rattle.snap_top.specs.Alike.{HoldAlike, SeenAlike, seen_by}
+use Rattle.snap_top.specs.Unbroken.{NothingRose}
 use Rattle.snap_top.specs.BrokeOff.{FixBrokeOff, PrintsFront, ReadsRight, RoseOnceBy, seen_so_far}
 use Rattle.snap_top.specs.FixedAlike.{KeepStampsAlike}
 use Rattle.snap_top.specs.LeftAlike.{AskSame}
 use Rattle.snap_top.specs.Restoring.{EndsFixed, events_in}
-use Rattle.snap_top.specs.Resumed.{RunOf}
+use Rattle.snap_top.specs.RunOf.{RunOf}
 use Rattle.snap_top.specs.Standing.{after_of, before_of}
 
 -- there is one folder, and one call of it failed

@@ -5,10 +5,11 @@ use Rattle.disk_model.specs.Opener.{OpenerView}
 use Rattle.disk_model.specs.Sink.{SinkView}
 use Rattle.disk_model.specs.Vault.{VaultView}
 use Rattle.snap_report.specs.declared.answer.RunFault.TheVariants as runs
-use Rattle.snap_top.specs.Alike.{HoldAlike, NothingRose}
+use Rattle.snap_top.specs.Alike.{HoldAlike}
+use Rattle.snap_top.specs.Unbroken.{NothingRose}
 use Rattle.snap_top.specs.BrokeOff.{PrintsFront, RoseOnceBy, ScrubBrokeOff, answered}
 use Rattle.snap_top.specs.LeftAlike.{AskSame}
-use Rattle.snap_top.specs.Resumed.{RunOf}
+use Rattle.snap_top.specs.RunOf.{RunOf}
 use Rattle.snap_top.specs.Scrubbed.{EndsScrubbed, events_scrubbed}
 use Rattle.snap_top.specs.Standing.{after_of, before_of}
 

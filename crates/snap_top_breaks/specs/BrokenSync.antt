@@ -7,10 +7,11 @@ use Rattle.disk_model.specs.Opener.{OpenerView}
 use Rattle.disk_model.specs.Sink.{SinkView}
 use Rattle.disk_model.specs.Vault.{VaultView}
 use Rattle.snap_sync.specs.Part.{SyncRun}
-use Rattle.snap_top.specs.Moment.{IsSoundAlways, LoadsWell}
-use Rattle.snap_top.specs.Resumed.{RunOf}
+use Rattle.snap_top.specs.Moment.{IsSoundAlways}
+use Rattle.snap_top.specs.Effect.{effect}
+use Rattle.snap_top.specs.RunOf.{RunOf}
 use Rattle.snap_top.specs.Standing.{after_of, before_of}
-use Rattle.snap_top.specs.Task.{syncs}
+use Rattle.snap_top.specs.Did.{syncs}
 
 module _ {O F V W : Type 0} (opener_view : O → OpenerView) (folder_view : F → FolderView) (vault_view : V → VaultView) (sink_view : W → SinkView) where
   -- A sync of an array without its first copy broke off once that was saved, and just one call of the vault failed. So no reading of a copy did
@@ -26,4 +27,4 @@ module _ {O F V W : Type 0} (opener_view : O → OpenerView) (folder_view : F �
         (after_of opener_view folder_view vault_view sink_view run).after.vault.faults
     pub once : ¬ (RoseBy 2 (before_of opener_view folder_view vault_view sink_view run).opener.vault.faults
         (after_of opener_view folder_view vault_view sink_view run).after.vault.faults)
-    pub loads : LoadsWell (before_of opener_view folder_view vault_view sink_view run) (after_of opener_view folder_view vault_view sink_view run) always.did always.is_did
+    pub loads : (effect always.did).loads_well (before_of opener_view folder_view vault_view sink_view run) (after_of opener_view folder_view vault_view sink_view run) always.is_did

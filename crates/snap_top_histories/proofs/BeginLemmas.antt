@@ -14,9 +14,9 @@ use Rattle.disk_calm.specs.Store.{nothing_held}
 use Rattle.disk_memory.specs.Vault.{fresh_vault, view_of}
 use Rattle.disk_memory.specs.declared.folder.MemFolder.{MemFolder}
 use Rattle.snap_sync.specs.Part.{AllTell, trees_of}
-use Rattle.snap_top.specs.History.{LastSynced}
+use Rattle.snap_top.specs.LastSynced.{LastSynced}
 use Rattle.snap_top.specs.Levels.{by_setup, said_by}
-use Rattle.snap_top.specs.Run.{at_entry, entry_seen}
+use Rattle.snap_top.specs.Entry.{at_entry, entry_seen}
 use Rattle.snap_top.specs.Standing.{BeginsOver, IsOrigin, nothing_synced}
 use Rattle.snap_top_histories.specs.Lived.{IsNew, files_seen, standing_of}
 use Rattle.snap_top_histories.proofs.SeenLemmas.{contents_seen, copies_seen, faults_seen, files_by, moment_seen, settled_seen, tells_seen}

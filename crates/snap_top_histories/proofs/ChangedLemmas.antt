@@ -13,7 +13,7 @@ use Rattle.disk_calm.specs.Store.{with_level}
 use Rattle.disk_memory.specs.Vault.{IsDamaged, VaultValue, opened_with_these, view_of}
 use Rattle.parity_writer.specs.Keeps.{HasByte}
 use Rattle.snap_sync.specs.Part.{trees_of}
-use Rattle.snap_top.specs.History.{BlockStays, IsChange, LastSynced}
+use Rattle.snap_top.specs.LastSynced.{BlockStays, IsChange, LastSynced}
 use Rattle.snap_top.specs.Levels.{said_by}
 use Rattle.snap_top.specs.Standing.{Change, Configures, Damages, Edits, Follows, IsChanged, IsHistory, Stage, Standing}
 use Rattle.snap_top_histories.specs.Changed.{IsChangedLevel}

@@ -10,14 +10,15 @@ use Rattle.disk_memory.specs.Vault.{VaultValue, fresh_vault, view_of}
 use Rattle.snap_config.specs.declared.options.Options.{Options}
 use Rattle.snap_sync.specs.Part.{trees_of}
 use Rattle.snap_top.specs.Headline.{Headline}
-use Rattle.snap_top.specs.History.{LastSynced}
+use Rattle.snap_top.specs.LastSynced.{LastSynced}
 use Rattle.snap_top.specs.Levels.{by_setup, said_by}
-use Rattle.snap_top.specs.Moment.{IsDidOf, StandsIn}
-use Rattle.snap_top.specs.Opening.{asked_by}
-use Rattle.snap_top.specs.Resumed.{RunOf}
-use Rattle.snap_top.specs.Run.{Entry, Exit, vault_in}
-use Rattle.snap_top.specs.Standing.{Change, Follows, GoesOver, IsHistory, IsOrigin, LeavesTrees, MeetsNoChance, Runs, Stage, Standing, after_of, before_of, nothing_synced}
-use Rattle.snap_top.specs.Task.{Did, fixes, reads_only, scrubs, syncs}
+use Rattle.snap_top.specs.Effect.{effect}
+use Rattle.snap_top.specs.Stands.{StandsIn}
+use Rattle.snap_top.specs.Asked.{asked_by}
+use Rattle.snap_top.specs.RunOf.{RunOf}
+use Rattle.snap_top.specs.Entry.{Entry, Exit, vault_in}
+use Rattle.snap_top.specs.Standing.{Change, Follows, GoesOver, IsHistory, IsOrigin, LeavesTrees, Runs, Stage, Standing, after_of, before_of, nothing_synced}
+use Rattle.snap_top.specs.Did.{Did, fixes, reads_only, scrubs, syncs}
 use Rattle.snap_top_histories.specs.Lived.{AskForNoFix, HasHistory, IsLeftOf, IsNoFix, RunsOver, ended_by, files_seen, standing_of, statuses_of}
 use Rattle.snap_top_histories.proofs.BeginLemmas.{origin}
 use Rattle.snap_top_histories.proofs.SeenLemmas.{LeavesAt, left_seen}
@@ -32,7 +33,7 @@ abbrev pub IsNotFixing : Did → Type 0
 IsNotFixing (fixes failed run) = ⊥
 IsNotFixing _ = Unit {0}
 
-not_fixing : (before : Entry) (exit : Exit) (did : Did) → IsDidOf before exit did → AskForNoFix before.texts → IsNotFixing did
+not_fixing : (before : Entry) (exit : Exit) (did : Did) → (effect did).is_of before exit → AskForNoFix before.texts → IsNotFixing did
 not_fixing before exit reads_only is asks = tt
 not_fixing before exit (syncs failed run) is asks = tt
 not_fixing before exit (scrubs failed run) is asks = tt
@@ -40,19 +41,19 @@ not_fixing before exit (fixes failed run) is asks =
     let same : is.configured.asked ≡ asks.asked = same_ok (asked_by before.texts) is.configured.asked asks.asked is.configured.read asks.words in
     subst IsNoFix (sym (is.configured.command_is ∙ ap (λ (a : Options). a.command) same)) asks.is_none
 
-pub no_chance : (did : Did) → IsNotFixing did → (snapshot : Closed) → MeetsNoChance did snapshot
+pub no_chance : (did : Did) → IsNotFixing did → (snapshot : Closed) → (effect did).meets_no_chance snapshot
 no_chance reads_only not snapshot = tt
 no_chance (syncs failed run) not snapshot = tt
 no_chance (scrubs failed run) not snapshot = tt
 no_chance (fixes failed run) not snapshot = absurd not
 
-left_same : (before : Entry) (exit : Exit) (did : Did) → IsNotFixing did → (old new : List Tree) → LeavesTrees did before exit old new → new ≡ old
+left_same : (before : Entry) (exit : Exit) (did : Did) → IsNotFixing did → (old new : List Tree) → LeavesTrees (effect did).writes_files before exit old new → new ≡ old
 left_same before exit reads_only not old new leaves = leaves
 left_same before exit (syncs failed run) not old new leaves = leaves
 left_same before exit (scrubs failed run) not old new leaves = leaves
 left_same before exit (fixes failed run) not old new leaves = absurd not
 
-same_left : (before : Entry) (exit : Exit) (did : Did) → IsNotFixing did → (old new : List Tree) → new ≡ old → LeavesTrees did before exit old new
+same_left : (before : Entry) (exit : Exit) (did : Did) → IsNotFixing did → (old new : List Tree) → new ≡ old → LeavesTrees (effect did).writes_files before exit old new
 same_left before exit reads_only not old new same = same
 same_left before exit (syncs failed run) not old new same = same
 same_left before exit (scrubs failed run) not old new same = same
@@ -82,12 +83,12 @@ module _ {O F V W : Type 0} (opener_view : O → OpenerView) (folder_view : F �
 
   pub quiet_run : (config : List ℕ) (texts : List (List ℕ)) (seed : List ℕ) (folders : List FolderView) (vault : VaultView) (status : ℕ) (left_folders : List F) (left : V)
       → (runs : RunsOver opener_view folder_view vault_view sink_view config texts seed folders vault status left_folders left)
-      → AskForNoFix texts → (did : Did) → IsDidOf (begun runs.run) (ended runs.run) did → IsNotFixing did
+      → AskForNoFix texts → (did : Did) → (effect did).is_of (begun runs.run) (ended runs.run) → IsNotFixing did
   quiet_run config texts seed folders vault status left_folders left runs asks did is =
       not_fixing (begun runs.run) (ended runs.run) did is (subst AskForNoFix (sym runs.texts_are) asks)
 
   -- the trees stay
-  stay_same : (run : RunOf O F V W) (standing next : Standing) → Goes run standing next → ((did : Did) → IsDidOf (begun run) (ended run) did → IsNotFixing did) → next.trees ≡ standing.trees
+  stay_same : (run : RunOf O F V W) (standing next : Standing) → Goes run standing next → ((did : Did) → (effect did).is_of (begun run) (ended run) → IsNotFixing did) → next.trees ≡ standing.trees
   stay_same run standing next goes quiet =
       left_same (begun run) (ended run) goes.step.always.did (quiet goes.step.always.did goes.step.always.is_did) standing.trees next.trees goes.trees
 

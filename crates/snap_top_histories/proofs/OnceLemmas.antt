@@ -8,12 +8,12 @@ use Rattle.disk_model.specs.Vault.{VaultView, copies_of}
 use Rattle.disk_memory.specs.Vault.{VaultValue, fresh_vault, view_of}
 use Rattle.snap_sync.specs.Part.{tree_at, trees_of}
 use Rattle.snap_top.specs.Headline.{FixesToItsEnd}
-use Rattle.snap_top.specs.History.{LastSynced}
-use Rattle.snap_top.specs.Moment.{IsDidOf}
-use Rattle.snap_top.specs.Opening.{asked_by}
-use Rattle.snap_top.specs.Resumed.{RunOf}
-use Rattle.snap_top.specs.Standing.{BeginsOver, Edits, GoesOver, IsHistory, IsOrigin, MeetsNoChance, Runs, Stage, Standing, after_of, before_of, nothing_synced}
-use Rattle.snap_top.specs.Task.{Did}
+use Rattle.snap_top.specs.LastSynced.{LastSynced}
+use Rattle.snap_top.specs.Effect.{effect}
+use Rattle.snap_top.specs.Asked.{asked_by}
+use Rattle.snap_top.specs.RunOf.{RunOf}
+use Rattle.snap_top.specs.Standing.{BeginsOver, Edits, GoesOver, IsHistory, IsOrigin, Runs, Stage, Standing, after_of, before_of, nothing_synced}
+use Rattle.snap_top.specs.Did.{Did}
 use Rattle.snap_top_histories.specs.Lived.{AskForFix, AskForNoFix, HasHistory, IsLeftOf, RunsOver, files_seen, standing_of}
 use Rattle.snap_top_histories.specs.Once.{IsFixedWhole, IsLeftOfOne}
 use Rattle.snap_top.specs.Taken.{IsTakenFrom, OnlyTakenAway}
@@ -32,7 +32,7 @@ module _ {O F V W : Type 0} (opener_view : O → OpenerView) (folder_view : F �
   abbrev pub MeetsNone : Type 0
   MeetsNone = (once fix : RunOf O F V W) (first next : Standing) (trees : List Tree) (did : Did) → IsOrigin first → GoesOver opener_view folder_view vault_view sink_view once first next → OnlyTakenAway next.trees trees
       → BeginsOver (record next { trees = trees }) (before_of opener_view folder_view vault_view sink_view fix)
-      → IsDidOf (before_of opener_view folder_view vault_view sink_view fix) (after_of opener_view folder_view vault_view sink_view fix) did → MeetsNoChance did next.last.snapshot
+      → (effect did).is_of (before_of opener_view folder_view vault_view sink_view fix) (after_of opener_view folder_view vault_view sink_view fix) → (effect did).meets_no_chance next.last.snapshot
 
   pub left_of_one : (config : List ℕ) (texts : List (List ℕ)) (seed : List ℕ) (levels copies : ℕ) (value : VaultValue) (folders : List FolderView) (made : VaultView) (status : ℕ) (left_folders : List F) (left : V)
       → Always → value ≡ fresh_vault levels copies → AskForNoFix texts
@@ -89,7 +89,7 @@ module _ {O F V W : Type 0} (opener_view : O → OpenerView) (folder_view : F �
     unfolding stages
     history = (once.goes, (once.stands, refl))
 
-    genuine : MeetsNoChance runs.step.always.did once.next.last.snapshot
+    genuine : (effect runs.step.always.did).meets_no_chance once.next.last.snapshot
     genuine = meets once.run runs.run once.first once.next (trees_of folders) runs.step.always.did once.origin once.goes once.taken (subst Begins once.stands (runs.begins once.next.last)) runs.step.always.is_did
 
     at_end : (next : Standing) × (next.files ≡ (after_of opener_view folder_view vault_view sink_view runs.run).after.vault.files)

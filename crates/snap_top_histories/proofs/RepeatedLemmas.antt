@@ -16,21 +16,25 @@ use Rattle.array_setup.specs.declared.ways.Selection.{Selection}
 use Rattle.repair_scope.specs.declared.scope.Mode.{Mode}
 use Rattle.repair_scope.specs.declared.scope.Mode.TheVariants as modes
 use Rattle.stripe_reader.specs.Columns.{folder_at}
-use Rattle.snap_top.specs.Alike.{AskAlike, CheckAlike, HoldAlike, NothingRose}
+use Rattle.snap_top.specs.Alike.{AskAlike, CheckAlike, HoldAlike}
+use Rattle.snap_top.specs.Unbroken.{NothingRose}
 use Rattle.snap_top.specs.Check.{CheckRun}
-use Rattle.snap_top.specs.Ended.{ByStatus, has_ended}
+use Rattle.snap_top.specs.Ended.{ByStatus}
+use Rattle.snap_top.specs.Effect.{effect}
 use Rattle.snap_top.specs.Fix.{FixRun, MayStandFixed}
 use Rattle.snap_top.specs.Headline.{Headline}
-use Rattle.snap_top.specs.History.{LastSynced}
-use Rattle.snap_top.specs.Moment.{ChangesNothing, IsDidOf, IsFixOf, TellsAll}
-use Rattle.snap_top.specs.Naming.{EndsAsAsked, EndsChecked, HasChecked}
-use Rattle.snap_top.specs.Opening.{asked_by}
-use Rattle.snap_top.specs.Resumed.{RunOf}
-use Rattle.snap_top.specs.Run.{Entry, Exit}
+use Rattle.snap_top.specs.LastSynced.{LastSynced}
+use Rattle.snap_top.specs.Asked.{asked_by, ChangesNothing}
+use Rattle.snap_top.specs.Began.{IsFixOf}
+use Rattle.snap_top.specs.Stands.{TellsAll}
+use Rattle.snap_top.specs.Naming.{EndsChecked, HasChecked}
+use Rattle.snap_top.specs.AsAsked.{EndsAsAsked}
+use Rattle.snap_top.specs.RunOf.{RunOf}
+use Rattle.snap_top.specs.Entry.{Entry, Exit}
 use Rattle.snap_top.specs.Standing.{BeginsOver, GoesOver, IsHistory, IsOrigin, Stage, Standing, after_of, before_of}
 use Rattle.snap_top.specs.Step.{ChangesFiles, RunStep}
 use Rattle.snap_top.specs.Sync.{BeginsFrom}
-use Rattle.snap_top.specs.Task.{Did, fixes, may_stand, reads_only, scrubs, syncs}
+use Rattle.snap_top.specs.Did.{Did, fixes, reads_only, scrubs, syncs}
 use Rattle.snap_top.proofs.AskedLemmas.{command_asked, setup_read, unfailed}
 use Rattle.snap_top.proofs.CompleteLemmas.{same_ok}
 use Rattle.snap_top.proofs.ResumeLemmas.{begins_same}
@@ -61,7 +65,7 @@ same_copies setup seed copies files others table same (inr none) =
     inr (λ copy below. ap (λ (contents : List (Option (List ℕ))). get_or contents copy None) (sym same) ∙ none.0 copy below, none.1)
 
 -- what a run did that was asked for a fix and went to its end
-fix_did : (before : Entry) (exit : Exit) → IsTrue before.opener.tells → (asks : AskForFix before.texts) → (did : Did) → IsDidOf before exit did → has_ended did ≡ true → (fix : FixRun) × (did ≡ fixes false fix)
+fix_did : (before : Entry) (exit : Exit) → IsTrue before.opener.tells → (asks : AskForFix before.texts) → (did : Did) → (effect did).is_of before exit → (effect did).has_ended ≡ true → (fix : FixRun) × (did ≡ fixes false fix)
 fix_did before exit tells asks reads_only is done = absurd (let clash : false ≡ true = done in cc)
 fix_did before exit tells asks (syncs failed sync) is done =
     let clash : commands.Sync is.way ≡ commands.Fix asks.selection = command_asked before tells asks.asked asks.words (commands.Sync is.way) is.readers sync.setup is.configured ∙ asks.command_is in
@@ -92,13 +96,13 @@ same_table one_table before before_then exit exit_then fix again is is_then tell
 
 -- so it is of two fixes, the second over what the first one left, or a stop at some moment of it
 loaded_again : OneTable → (before before_then : Entry) (exit exit_then : Exit) (did did_then : Did) (fix again : FixRun) (standing next : Standing) (asked : Options)
-    → IsDidOf before exit did → did ≡ fixes false fix → IsDidOf before_then exit_then did_then → did_then ≡ fixes false again
-    → BeginsOver standing before → BeginsOver next before_then → next ≡ record standing { trees = next.trees; files = next.files; last = next.last } → may_stand did before.opener.vault.files next.files
+    → (effect did).is_of before exit → did ≡ fixes false fix → (effect did_then).is_of before_then exit_then → did_then ≡ fixes false again
+    → BeginsOver standing before → BeginsOver next before_then → next ≡ record standing { trees = next.trees; files = next.files; last = next.last } → (effect did).may_stand before.opener.vault.files next.files
     → asked_by before.texts ≡ Ok asked → asked_by before_then.texts ≡ Ok asked → before.seed ≡ before_then.seed → NothingRose before exit → NothingRose before_then exit_then → again.loaded ≡ fix.loaded
 loaded_again one_table before before_then exit exit_then did did_then fix again standing next asked is did_is is_then then_is begins begins_then array stands words words_then seed well well_then =
-    let moment : MayStandFixed fix before.opener.vault.files next.files = subst (λ (its : Did). may_stand its before.opener.vault.files next.files) did_is stands in
+    let moment : MayStandFixed fix before.opener.vault.files next.files = subst (λ (its : Did). (effect its).may_stand before.opener.vault.files next.files) did_is stands in
     same_table one_table before before_then exit exit_then fix again
-    (subst (IsDidOf before exit) did_is is) (subst (IsDidOf before_then exit_then) then_is is_then) begins.tells begins_then.tells asked words words_then
+    (subst (λ (did : Did). (effect did).is_of before exit) did_is is) (subst (λ (did : Did). (effect did).is_of before_then exit_then) then_is is_then) begins.tells begins_then.tells asked words words_then
     (begins.config ∙ sym (ap (λ (its : Standing). its.config) array) ∙ sym begins_then.config) seed
     (begins.copies ∙ sym (ap (λ (its : Standing). its.copies) array) ∙ sym begins_then.copies)
     (ap (λ (files : Files). files.contents) begins_then.files ∙ moment.contents) well well_then

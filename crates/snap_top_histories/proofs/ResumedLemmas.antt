@@ -13,12 +13,11 @@ use Rattle.snap_config.specs.declared.options.Command.{Command}
 use Rattle.snap_config.specs.declared.options.Command.TheVariants as commands
 use Rattle.snap_sync.specs.Part.{trees_of}
 use Rattle.snap_top.specs.Headline.{FixesToItsEnd, Headline, IsAskedToSync, IsSyncOver, SyncsClean, SyncsWell}
-use Rattle.snap_top.specs.History.{LastSynced}
+use Rattle.snap_top.specs.LastSynced.{LastSynced}
 use Rattle.snap_top.specs.Levels.{said_by}
-use Rattle.snap_top.specs.Moment.{ChangesNothing}
-use Rattle.snap_top.specs.Opening.{asked_by}
-use Rattle.snap_top.specs.Resumed.{RunOf}
-use Rattle.snap_top.specs.Run.{Entry, Exit, vault_in}
+use Rattle.snap_top.specs.Asked.{asked_by, ChangesNothing}
+use Rattle.snap_top.specs.RunOf.{RunOf}
+use Rattle.snap_top.specs.Entry.{Entry, Exit, vault_in}
 use Rattle.snap_top.specs.Standing.{GoesOver, IsHistory, IsOrigin, Runs, Stage, Standing, after_of, before_of, nothing_synced}
 use Rattle.snap_top.proofs.AskedLemmas.{loads_well}
 use Rattle.snap_top_histories.specs.Lived.{AskForFix, AskForNoChange, AskForNoFix, AskForSync, HasHistory, IsFixedAtLast, IsLeftOf, IsNoFix, IsResumedOnce, IsSyncedAtLast, RunsOver, files_seen, standing_of}

@@ -15,14 +15,16 @@ use Rattle.snap_config.specs.declared.options.Options.{Options}
 use Rattle.array_setup.specs.declared.ways.Selection.{Selection}
 use Rattle.array_setup.specs.declared.ways.SyncWay.{SyncWay}
 use Rattle.snap_sync.specs.Part.{trees_of}
-use Rattle.snap_top.specs.History.{LastSynced}
+use Rattle.snap_top.specs.LastSynced.{LastSynced}
 use Rattle.snap_top.specs.Levels.{by_setup, said_by}
-use Rattle.snap_top.specs.Moment.{ChangesNothing, StandsAfter}
-use Rattle.snap_top.specs.Opening.{asked_by}
+use Rattle.snap_top.specs.Asked.{asked_by, ChangesNothing}
+use Rattle.snap_top.specs.Stands.{StandsAfter}
 use Rattle.snap_top.specs.Headline.{FixesToItsEnd, IsSyncOver, SyncsClean, SyncsWell}
 use Rattle.snap_top.specs.RestoredLast.{IsRestored}
-use Rattle.snap_top.specs.Resumed.{EndAlike, RunOf}
-use Rattle.snap_top.specs.Standing.{BeginsOver, Change, GoesOver, IsHistory, IsOrigin, MeetsNoChance, Runs, Stage, Standing, after_of, before_of}
+use Rattle.snap_top.specs.Sync.{EndAlike}
+use Rattle.snap_top.specs.RunOf.{RunOf}
+use Rattle.snap_top.specs.Standing.{BeginsOver, Change, GoesOver, IsHistory, IsOrigin, Runs, Stage, Standing, after_of, before_of}
+use Rattle.snap_top.specs.Effect.{effect}
 use Rattle.snap_top.specs.Step.{RunStep}
 use Rattle.snap_top.specs.SyncedLast.{IsSyncedLast}
 
@@ -177,7 +179,7 @@ module _ {O F V W : Type 0} (opener_view : O → OpenerView) (folder_view : F �
     pub begins : BeginsOver standing (before_of opener_view folder_view vault_view sink_view run)
     pub step : RunStep (before_of opener_view folder_view vault_view sink_view run) (after_of opener_view folder_view vault_view sink_view run) run.status
     pub fixes : FixesToItsEnd opener_view folder_view vault_view sink_view run
-    pub restores : MeetsNoChance step.always.did standing.last.snapshot
+    pub restores : (effect step.always.did).meets_no_chance standing.last.snapshot
         → (next : Standing) × (goes : GoesOver opener_view folder_view vault_view sink_view run standing next)
         × (next.trees ≡ trees_of (after_of opener_view folder_view vault_view sink_view run).after.folders)
         × IsRestored (before_of opener_view folder_view vault_view sink_view run) (after_of opener_view folder_view vault_view sink_view run)

@@ -7,7 +7,7 @@ use Rattle.disk_model.specs.Vault.{VaultView}
 use Rattle.snap_sync.specs.Part.{trees_of}
 use Rattle.snap_top.specs.Headline.{FixesToItsEnd}
 use Rattle.snap_top.specs.RestoredLast.{IsRestored}
-use Rattle.snap_top.specs.Resumed.{RunOf}
+use Rattle.snap_top.specs.RunOf.{RunOf}
 use Rattle.snap_top.specs.Standing.{GoesOver, IsHistory, IsOrigin, Stage, Standing, after_of, before_of}
 use Rattle.snap_top_histories.specs.Lived.{standing_of}
 use Rattle.snap_top.specs.Taken.{OnlyTakenAway}

@@ -9,16 +9,17 @@ use Rattle.snap_config.specs.declared.options.Command.TheVariants as commands
 use Rattle.snap_config.specs.declared.options.Options.{Options}
 use Rattle.array_setup.specs.declared.ways.Selection.{Selection}
 use Rattle.repair_scope.specs.declared.scope.Mode.TheVariants as modes
-use Rattle.snap_top.specs.Alike.{AskAlike, CheckAlike, HoldAlike, NothingRose}
+use Rattle.snap_top.specs.Alike.{AskAlike, CheckAlike, HoldAlike}
+use Rattle.snap_top.specs.Unbroken.{NothingRose}
 use Rattle.snap_top.specs.Check.{CheckRun}
 use Rattle.snap_top.specs.Fix.{FixRun}
 use Rattle.snap_top.specs.Naming.{HasChecked}
 use Rattle.snap_top.specs.NextFix.{RestoresAgain}
-use Rattle.snap_top.specs.Opening.{asked_by}
-use Rattle.snap_top.specs.Resumed.{RunOf}
+use Rattle.snap_top.specs.Asked.{asked_by}
+use Rattle.snap_top.specs.RunOf.{RunOf}
 use Rattle.snap_top.specs.Standing.{BeginsOver, GoesOver, IsHistory, IsOrigin, Stage, Standing, after_of, before_of}
 use Rattle.snap_top.specs.Step.{RunStep}
-use Rattle.snap_top.specs.Task.{fixes}
+use Rattle.snap_top.specs.Did.{fixes}
 
 -- the words ask for a check
 pub record AskForCheck (texts : List (List ℕ)) : Type 0 where

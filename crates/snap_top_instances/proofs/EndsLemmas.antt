@@ -8,16 +8,20 @@ use Rattle.array_setup.specs.declared.ways.Selection.{Selection}
 use Rattle.array_setup.specs.declared.ways.SyncWay.{SyncWay}
 use Rattle.repair_scope.specs.declared.scope.Mode.{Mode}
 use Rattle.snap_top.specs.Alike.{AskAlike}
-use Rattle.snap_top.specs.Ended.{ByStatus, IsEndStatus, has_ended}
+use Rattle.snap_top.specs.Ended.{ByStatus}
+use Rattle.snap_top.specs.Effect.{effect}
+use Rattle.snap_top.specs.Output.{IsEndStatus}
 use Rattle.snap_top.specs.LeftAlike.{AskSame}
-use Rattle.snap_top.specs.Moment.{EndsInPart, IsDidOf, TellsAll}
-use Rattle.snap_top.specs.Naming.{ChecksEnd, EndsAsAsked, command_in}
-use Rattle.snap_top.specs.Opening.{asked_by}
+use Rattle.snap_top.specs.InPart.{EndsInPart}
+use Rattle.snap_top.specs.Stands.{TellsAll}
+use Rattle.snap_top.specs.AsAsked.{ChecksEnd, EndsAsAsked}
+use Rattle.snap_top.specs.Began.{command_in}
+use Rattle.snap_top.specs.Asked.{asked_by}
 use Rattle.snap_top.specs.Restoring.{EndsFixed}
-use Rattle.snap_top.specs.Run.{Entry, Exit}
+use Rattle.snap_top.specs.Entry.{Entry, Exit}
 use Rattle.snap_top.specs.Scrubbed.{EndsScrubbed}
-use Rattle.snap_top.specs.Step.{ChangesFiles, EndsBy, RunStep}
-use Rattle.snap_top.specs.Task.{Did, fixes, reads_only, scrubs, syncs}
+use Rattle.snap_top.specs.Step.{ChangesFiles, RunStep}
+use Rattle.snap_top.specs.Did.{Did, fixes, reads_only, scrubs, syncs}
 use Rattle.snap_top.proofs.AskedLemmas.{command_asked}
 use Rattle.snap_top_histories.specs.Lived.{AskForNoFix, IsNoFix}
 use Rattle.snap_top_instances.specs.Asked.{AsksFor, everything}
@@ -67,7 +71,7 @@ counted_some status false zero is one = absurd (let none = is.clean.1 (refl, ref
 -- ---- how a run ended, by what it did
 
 module _ (before : Entry) (exit : Exit) (status : ℕ) (tells : TellsAll before) (asked : Options) (words : asked_by before.texts ≡ Ok asked) where
-  sync_did : (way : SyncWay) → asked.command ≡ commands.Sync way → (did : Did) → IsDidOf before exit did → has_ended did ≡ true → EndsBy did before exit status → EndsInPart before exit status
+  sync_did : (way : SyncWay) → asked.command ≡ commands.Sync way → (did : Did) → (effect did).is_of before exit → (effect did).has_ended ≡ true → (effect did).ends before exit status → EndsInPart before exit status
   sync_did way command reads_only is done ends = absurd (let clash : false ≡ true = done in cc)
   sync_did way command (syncs failed sync) is done ends = (ends tells.tells_folders).0
   sync_did way command (fixes failed fix) is done ends =
@@ -77,7 +81,7 @@ module _ (before : Entry) (exit : Exit) (status : ℕ) (tells : TellsAll before)
       let clash : commands.Scrub scrub.way ≡ commands.Sync way = command_asked before tells.tells asked words (commands.Scrub scrub.way) is.readers scrub.setup is.configured ∙ command in
       absurd cc
 
-  scrub_did : (way : ScrubWay) → asked.command ≡ commands.Scrub way → (did : Did) → IsDidOf before exit did → has_ended did ≡ true → EndsBy did before exit status → EndsScrubbed before exit status
+  scrub_did : (way : ScrubWay) → asked.command ≡ commands.Scrub way → (did : Did) → (effect did).is_of before exit → (effect did).has_ended ≡ true → (effect did).ends before exit status → EndsScrubbed before exit status
   scrub_did way command reads_only is done ends = absurd (let clash : false ≡ true = done in cc)
   scrub_did way command (syncs failed sync) is done ends =
       let clash : commands.Sync is.way ≡ commands.Scrub way = command_asked before tells.tells asked words (commands.Sync is.way) is.readers sync.setup is.configured ∙ command in
@@ -87,7 +91,7 @@ module _ (before : Entry) (exit : Exit) (status : ℕ) (tells : TellsAll before)
       absurd cc
   scrub_did way command (scrubs failed scrub) is done ends = ends.0
 
-  fix_did : (selection : Selection) → asked.command ≡ commands.Fix selection → (did : Did) → IsDidOf before exit did → has_ended did ≡ true → EndsBy did before exit status → EndsFixed before exit status
+  fix_did : (selection : Selection) → asked.command ≡ commands.Fix selection → (did : Did) → (effect did).is_of before exit → (effect did).has_ended ≡ true → (effect did).ends before exit status → EndsFixed before exit status
   fix_did selection command reads_only is done ends = absurd (let clash : false ≡ true = done in cc)
   fix_did selection command (syncs failed sync) is done ends =
       let clash : commands.Sync is.way ≡ commands.Fix selection = command_asked before tells.tells asked words (commands.Sync is.way) is.readers sync.setup is.configured ∙ command in
@@ -98,7 +102,7 @@ module _ (before : Entry) (exit : Exit) (status : ℕ) (tells : TellsAll before)
       absurd cc
 
   module _ (step : RunStep before exit status) (few : status ≤ 1) where
-    done_by : ChangesFiles asked.command → has_ended step.always.did ≡ true
+    done_by : ChangesFiles asked.command → (effect step.always.did).has_ended ≡ true
     done_by changes = step.done asked words changes (inl few)
 
     pub ends_synced : (way : SyncWay) → asked.command ≡ commands.Sync way → EndsInPart before exit status

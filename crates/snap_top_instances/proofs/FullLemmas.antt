@@ -15,13 +15,12 @@ use Rattle.snap_config.specs.declared.options.Options.{Options}
 use Rattle.snap_sync.specs.Part.{IsFullSync, run_trees, trees_of}
 use Rattle.snap_top.specs.Headline.{Headline, IsSyncOver, SyncsClean, SyncsWell}
 use Rattle.snap_top.specs.Levels.{by_setup, said_by}
-use Rattle.snap_top.specs.Moment.{EndsInPart}
-use Rattle.snap_top.specs.Opening.{asked_by}
-use Rattle.snap_top.specs.Resumed.{RunOf}
-use Rattle.snap_top.specs.Run.{Entry, Exit, vault_in}
+use Rattle.snap_top.specs.InPart.{EndsInPart}
+use Rattle.snap_top.specs.Asked.{asked_by}
+use Rattle.snap_top.specs.RunOf.{RunOf}
+use Rattle.snap_top.specs.Entry.{Entry, Exit, vault_in}
 use Rattle.snap_top.specs.Standing.{BeginsOver, IsOrigin, Runs, Stage, Standing, after_of, before_of, nothing_synced}
-use Rattle.snap_top.specs.Sync.{BeginsFrom}
-use Rattle.snap_top.specs.Task.{end_table}
+use Rattle.snap_top.specs.Sync.{BeginsFrom, end_table}
 use Rattle.snap_top.proofs.AskedLemmas.{setup_read, well_in}
 use Rattle.snap_top.proofs.CompleteLemmas.{same_ok}
 use Rattle.snap_top_histories.specs.Lived.{AskForSync, IsLeftOf, RunsOver, files_seen, standing_of}

@@ -30,22 +30,24 @@ use Rattle.snap_report.specs.declared.answer.RunFault.TheVariants as runs
 use Rattle.snap_report.specs.declared.events.Event.{Event}
 use Rattle.snap_sync.specs.Beginning.{RefusesLayout}
 use Rattle.snap_sync.specs.Part.{AllTell}
-use Rattle.snap_top.specs.Alike.{NothingRose}
+use Rattle.snap_top.specs.Unbroken.{held_vault, left_vault, NothingRose}
 use Rattle.snap_top.specs.Array.{Matches}
-use Rattle.snap_top.specs.Complete.{AreHeld, HasContentOrNone, IsSmooth, IsUnrefused, MayBegin, held_vault, left_vault}
+use Rattle.snap_top.specs.Complete.{AreHeld, HasContentOrNone, IsSmooth, IsUnrefused, MayBegin}
 use Rattle.snap_top.specs.Does.{DoesCommand}
 use Rattle.snap_top.specs.Ended.{ByStatus}
 use Rattle.snap_top.specs.Known.{unknown_in}
 use Rattle.snap_top.specs.Levels.{said_by}
-use Rattle.snap_top.specs.Loading.{Loading}
-use Rattle.snap_top.specs.Moment.{TellsAll}
-use Rattle.snap_top.specs.Opening.{asked_by}
-use Rattle.snap_top.specs.Resumed.{RunOf}
-use Rattle.snap_top.specs.Run.{BeginsWith, Entry, Exit, HasAccount, IsAnswered, IsRun, LoadsFrom}
+use Rattle.snap_top.specs.Loading.{Loading, BeginsWith, LoadsFrom}
+use Rattle.snap_top.specs.Stands.{TellsAll}
+use Rattle.snap_top.specs.Asked.{asked_by, WorksOnArray}
+use Rattle.snap_top.specs.RunOf.{RunOf}
+use Rattle.snap_top.specs.Run.{HasAccount, IsAnswered, IsRun}
+use Rattle.snap_top.specs.Entry.{Entry, Exit}
 use Rattle.snap_top.specs.Standing.{BeginsOver, Standing, after_of, before_of, nothing_synced}
 use Rattle.snap_top.specs.Sync.{HoldsNoContent, IsFirstContent}
 use Rattle.snap_top.specs.Syncing.{SyncEnds, SyncsBy}
-use Rattle.snap_top.specs.Task.{Did, Left, Task, WorksOnArray}
+use Rattle.snap_top.specs.Task.{Left, Task}
+use Rattle.snap_top.specs.Did.{Did}
 use Rattle.snap_top.specs.Views.{World, folder_at, view_of, world_of}
 use Rattle.snap_top.specs.declared.end.Ending.TheVariants.{Answered}
 use Rattle.snap_top.proofs.AskedLemmas.{command_asked, setup_read, unfailed}

@@ -8,7 +8,7 @@ use Rattle.array_setup.specs.declared.ways.ScrubWay.{ScrubWay}
 use Rattle.array_setup.specs.declared.ways.Selection.{Selection}
 use Rattle.array_setup.specs.declared.ways.SyncWay.{SyncWay}
 use Rattle.snap_top.specs.Levels.{is_split, said_by}
-use Rattle.snap_top.specs.Opening.{asked_by}
+use Rattle.snap_top.specs.Asked.{asked_by}
 
 -- a sync without options
 abbrev pub plain_sync : SyncWay

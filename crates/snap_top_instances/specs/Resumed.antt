@@ -10,7 +10,7 @@ use Rattle.file_table.specs.Table.{TableValue}
 use Rattle.array_setup.specs.Setup.{SetupValue}
 use Rattle.snap_sync.specs.Part.{IsFullSync}
 use Rattle.snap_top.specs.Headline.{AreStoppedSyncs, EndsInFull, Syncs, SyncsClean}
-use Rattle.snap_top.specs.Resumed.{RunOf}
+use Rattle.snap_top.specs.RunOf.{RunOf}
 use Rattle.snap_top.specs.Standing.{IsHistory, IsOrigin, Stage, Standing}
 use Rattle.snap_top.specs.Sync.{BeginsFrom}
 

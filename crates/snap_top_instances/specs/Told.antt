@@ -7,11 +7,10 @@ use Rattle.disk_model.specs.Sink.{SinkView}
 use Rattle.disk_model.specs.Vault.{VaultView}
 use Rattle.snap_sync.specs.Part.{tree_at, trees_of}
 use Rattle.snap_top.specs.Complete.{RefusalsTouchNothing, SmoothRunsAreDone}
-use Rattle.snap_top.specs.Moment.{EveryMomentIsSound, SyncsEndInPart}
-use Rattle.snap_top.specs.Naming.{ChecksEnd}
-use Rattle.snap_top.specs.Restoring.{FixesEnd}
-use Rattle.snap_top.specs.Run.{Entry, Exit, IsAccounted}
-use Rattle.snap_top.specs.Scrubbed.{ScrubsEnd}
+use Rattle.snap_top.specs.Moment.{EveryMomentIsSound}
+use Rattle.snap_top.specs.AsAsked.{ChecksEnd, FixesEnd, ScrubsEnd, SyncsEndInPart}
+use Rattle.snap_top.specs.Run.{IsAccounted}
+use Rattle.snap_top.specs.Entry.{Entry, Exit}
 use Rattle.snap_top.specs.Standing.{after_of, before_of}
 use Rattle.snap_top_histories.specs.Lived.{RunsOver}
 

@@ -9,8 +9,8 @@ use Rattle.snap_fix.specs.Audited.{FindsNothing}
 use Rattle.snap_report.specs.Kind.{is_finding}
 use Rattle.snap_top.specs.Ended.{ByStatus}
 use Rattle.snap_top.specs.Naming.{EndsAudited, events_found}
-use Rattle.snap_top.specs.Resumed.{RunOf}
-use Rattle.snap_top.specs.Run.{Entry, Exit}
+use Rattle.snap_top.specs.RunOf.{RunOf}
+use Rattle.snap_top.specs.Entry.{Entry, Exit}
 use Rattle.snap_top.specs.Standing.{after_of, before_of, nothing_synced}
 use Rattle.snap_top_histories.specs.Repeated.{are_calm}
 use Rattle.snap_top_histories.proofs.RepeatedLemmas.{nothing_rose}

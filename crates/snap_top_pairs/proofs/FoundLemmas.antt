@@ -8,13 +8,14 @@ use Rattle.snap_config.specs.declared.options.Command.TheVariants as commands
 use Rattle.snap_report.specs.Kind.{is_finding}
 use Rattle.repair_scope.specs.declared.scope.Mode.{Mode}
 use Rattle.repair_scope.specs.declared.scope.Mode.TheVariants as modes
-use Rattle.snap_top.specs.Alike.{AskAlike, CheckAlike, FindAlike, FixAlike, HoldAlike, NothingRose, ReadAlike}
+use Rattle.snap_top.specs.Alike.{AskAlike, CheckAlike, FindAlike, FixAlike, HoldAlike, ReadAlike}
+use Rattle.snap_top.specs.Unbroken.{NothingRose}
 use Rattle.snap_top.specs.Check.{CheckRun}
 use Rattle.snap_top.specs.Ended.{ByStatus}
 use Rattle.snap_top.specs.Naming.{EndsChecked, HasChecked, events_found}
 use Rattle.snap_top.specs.Restoring.{EndsFixed}
-use Rattle.snap_top.specs.Resumed.{RunOf}
-use Rattle.snap_top.specs.Run.{Entry, Exit}
+use Rattle.snap_top.specs.RunOf.{RunOf}
+use Rattle.snap_top.specs.Entry.{Entry, Exit}
 use Rattle.snap_top.specs.Standing.{after_of, before_of}
 use Rattle.snap_top.proofs.AskedLemmas.{command_asked, unfailed}
 use Rattle.snap_top.proofs.OneArrayLemmas.{one_selection}

@@ -9,12 +9,13 @@ use Rattle.snap_config.specs.declared.options.Command.{Command}
 use Rattle.snap_config.specs.declared.options.Command.TheVariants as commands
 use Rattle.snap_report.specs.ListText.{list_text}
 use Rattle.snap_report.specs.StatusText.{bad_in, status_text}
-use Rattle.snap_top.specs.Alike.{HoldAlike, NothingRose}
+use Rattle.snap_top.specs.Alike.{HoldAlike}
+use Rattle.snap_top.specs.Unbroken.{NothingRose}
 use Rattle.snap_top.specs.Dup.{dup_text}
 use Rattle.snap_top.specs.LeftAlike.{AskSame, PrintAlike}
 use Rattle.snap_top.specs.Printing.{EndsPrinted}
-use Rattle.snap_top.specs.Resumed.{RunOf}
-use Rattle.snap_top.specs.Run.{Entry, Exit}
+use Rattle.snap_top.specs.RunOf.{RunOf}
+use Rattle.snap_top.specs.Entry.{Entry, Exit}
 use Rattle.snap_top.specs.Standing.{after_of, before_of}
 use Rattle.snap_top.proofs.AskedLemmas.{unfailed}
 use Rattle.snap_top.proofs.ResumeLemmas.{begins_same}

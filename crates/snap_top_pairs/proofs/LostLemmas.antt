@@ -11,8 +11,8 @@ use Rattle.disk_memory.specs.Vault.{VaultValue, view_of}
 use Rattle.file_table.specs.Table.{TableValue, records_in}
 use Rattle.file_table.specs.declared.shape.Shape.{Shape}
 use Rattle.snap_top.specs.Levels.{said_by}
-use Rattle.snap_top.specs.Resumed.{RunOf}
-use Rattle.snap_top.specs.Run.{Entry, Exit}
+use Rattle.snap_top.specs.RunOf.{RunOf}
+use Rattle.snap_top.specs.Entry.{Entry, Exit}
 use Rattle.snap_top.specs.Standing.{BeginsOver, Standing, after_of, before_of, nothing_synced}
 use Rattle.snap_top_histories.specs.Lived.{standing_of}
 use Rattle.snap_top_histories.specs.Repeated.{are_calm}

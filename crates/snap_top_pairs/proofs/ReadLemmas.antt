@@ -24,10 +24,11 @@ use Rattle.stripe_reader.specs.Reading.{CellReading, NoBlock, Task, given_by, is
 use Rattle.stripe_reader.specs.Slot.{kept}
 use Rattle.stripe_reader.specs.SlotValue.{SlotValue}
 use Rattle.stripe_reader.specs.WindowValue.{no_slot}
-use Rattle.snap_top.specs.Alike.{AskAlike, HoldAlike, NothingRose, ReadAlike}
+use Rattle.snap_top.specs.Alike.{AskAlike, HoldAlike, ReadAlike}
+use Rattle.snap_top.specs.Unbroken.{NothingRose}
 use Rattle.snap_top.specs.Check.{CheckRun}
 use Rattle.snap_top.specs.Naming.{HasChecked}
-use Rattle.snap_top.specs.Run.{Entry, Exit}
+use Rattle.snap_top.specs.Entry.{Entry, Exit}
 use Rattle.snap_top.proofs.AlikeLemmas.{one_plan}
 use Rattle.snap_top.proofs.AskedLemmas.{same_loaded, unfailed}
 use Rattle.snap_top.proofs.HeldLemmas.{held_slot, lists_same, rose_since, tells_then, tree_then}

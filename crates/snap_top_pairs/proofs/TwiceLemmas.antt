@@ -25,18 +25,20 @@ use Rattle.snap_sync.specs.Part.{tree_at, trees_of}
 use Rattle.stripe_findings.specs.Findings.{events_of}
 use Rattle.stripe_findings.specs.Reading.{StripeReading}
 use Rattle.stripe_reader.specs.Columns.{folder_at}
-use Rattle.snap_top.specs.Alike.{HoldAlike, NothingRose, SeenAlike, seen_by}
+use Rattle.snap_top.specs.Alike.{HoldAlike, SeenAlike, seen_by}
+use Rattle.snap_top.specs.Unbroken.{NothingRose}
 use Rattle.snap_top.specs.FixedAlike.{FixesAlike, KeepStampsAlike}
-use Rattle.snap_top.specs.History.{LastSynced}
+use Rattle.snap_top.specs.LastSynced.{LastSynced}
 use Rattle.snap_top.specs.LeftAlike.{AskSame, PrintAlike, ScrubsAlike, SyncsAlike}
-use Rattle.snap_top.specs.Moment.{EndsInPart, TellsAll}
-use Rattle.snap_top.specs.Opening.{asked_by}
+use Rattle.snap_top.specs.InPart.{EndsInPart}
+use Rattle.snap_top.specs.Stands.{TellsAll}
+use Rattle.snap_top.specs.Asked.{asked_by}
 use Rattle.snap_top.specs.Restoring.{EndsFixed}
-use Rattle.snap_top.specs.Resumed.{RunOf}
-use Rattle.snap_top.specs.Run.{Entry, Exit}
+use Rattle.snap_top.specs.RunOf.{RunOf}
+use Rattle.snap_top.specs.Entry.{Entry, Exit}
 use Rattle.snap_top.specs.Scrubbed.{EndsScrubbed}
 use Rattle.snap_top.specs.Standing.{IsOrigin, Runs, Standing, after_of, before_of, nothing_synced}
-use Rattle.snap_top.specs.Task.{fixes, scrubs, syncs}
+use Rattle.snap_top.specs.Did.{fixes, scrubs, syncs}
 use Rattle.snap_top.proofs.CompleteLemmas.{same_ok}
 use Rattle.snap_top_histories.specs.Lived.{IsLeftOf, standing_of}
 use Rattle.snap_top_histories.specs.Repeated.{are_calm}

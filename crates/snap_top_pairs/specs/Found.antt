@@ -6,11 +6,12 @@ use Rattle.disk_model.specs.Sink.{SinkView}
 use Rattle.disk_model.specs.Vault.{VaultView}
 use Rattle.snap_report.specs.Kind.{is_finding}
 use Rattle.repair_scope.specs.declared.scope.Mode.TheVariants as modes
-use Rattle.snap_top.specs.Alike.{AskAlike, CheckAlike, FindAlike, FixAlike, HoldAlike, NothingRose, ReadAlike}
+use Rattle.snap_top.specs.Alike.{AskAlike, CheckAlike, FindAlike, FixAlike, HoldAlike, ReadAlike}
+use Rattle.snap_top.specs.Unbroken.{NothingRose}
 use Rattle.snap_top.specs.Check.{CheckRun}
 use Rattle.snap_top.specs.Naming.{HasChecked, events_found}
 use Rattle.snap_top.specs.Restoring.{EndsFixed}
-use Rattle.snap_top.specs.Resumed.{RunOf}
+use Rattle.snap_top.specs.RunOf.{RunOf}
 use Rattle.snap_top.specs.Standing.{after_of, before_of}
 
 module _ {O F V W : Type 0} (opener_view : O → OpenerView) (folder_view : F → FolderView) (vault_view : V → VaultView) (sink_view : W → SinkView) where

@@ -10,11 +10,12 @@ use Rattle.snap_config.specs.declared.options.Command.{Command}
 use Rattle.snap_config.specs.declared.options.Command.TheVariants as commands
 use Rattle.snap_report.specs.ListText.{list_text}
 use Rattle.snap_report.specs.StatusText.{bad_in, status_text}
-use Rattle.snap_top.specs.Alike.{HoldAlike, NothingRose}
+use Rattle.snap_top.specs.Alike.{HoldAlike}
+use Rattle.snap_top.specs.Unbroken.{NothingRose}
 use Rattle.snap_top.specs.Dup.{dup_text}
 use Rattle.snap_top.specs.LeftAlike.{AskSame, PrintAlike}
 use Rattle.snap_top.specs.Printing.{EndsPrinted}
-use Rattle.snap_top.specs.Resumed.{RunOf}
+use Rattle.snap_top.specs.RunOf.{RunOf}
 use Rattle.snap_top.specs.Standing.{after_of, before_of}
 
 module _ {O F V W : Type 0} (opener_view : O → OpenerView) (folder_view : F → FolderView) (vault_view : V → VaultView) (sink_view : W → SinkView) where

@@ -5,8 +5,9 @@ use Rattle.disk_model.specs.Opener.{OpenerView}
 use Rattle.disk_model.specs.Sink.{SinkView}
 use Rattle.disk_model.specs.Vault.{VaultView, copies_of}
 use Rattle.file_table.specs.Table.{TableValue, records_in}
-use Rattle.snap_top.specs.Alike.{HoldAlike, NothingRose}
-use Rattle.snap_top.specs.Resumed.{RunOf}
+use Rattle.snap_top.specs.Alike.{HoldAlike}
+use Rattle.snap_top.specs.Unbroken.{NothingRose}
+use Rattle.snap_top.specs.RunOf.{RunOf}
 use Rattle.snap_top.specs.Standing.{after_of, before_of}
 use Rattle.snap_top.specs.Sync.{IsFirstContent}
 use Rattle.snap_top_instances.specs.Told.{KeepsClauses}

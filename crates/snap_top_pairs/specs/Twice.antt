@@ -7,13 +7,14 @@ use Rattle.disk_model.specs.Sink.{SinkView}
 use Rattle.disk_model.specs.Vault.{VaultView}
 use Rattle.snap_config.specs.declared.options.Options.{Options}
 use Rattle.snap_sync.specs.Part.{tree_at, trees_of}
-use Rattle.snap_top.specs.Alike.{HoldAlike, NothingRose}
+use Rattle.snap_top.specs.Alike.{HoldAlike}
+use Rattle.snap_top.specs.Unbroken.{NothingRose}
 use Rattle.snap_top.specs.FixedAlike.{FixesAlike, KeepStampsAlike}
 use Rattle.snap_top.specs.LeftAlike.{AskSame, PrintAlike, ScrubsAlike, SyncsAlike}
-use Rattle.snap_top.specs.Moment.{EndsInPart}
-use Rattle.snap_top.specs.Opening.{asked_by}
+use Rattle.snap_top.specs.InPart.{EndsInPart}
+use Rattle.snap_top.specs.Asked.{asked_by}
 use Rattle.snap_top.specs.Restoring.{EndsFixed}
-use Rattle.snap_top.specs.Resumed.{RunOf}
+use Rattle.snap_top.specs.RunOf.{RunOf}
 use Rattle.snap_top.specs.Scrubbed.{EndsScrubbed}
 use Rattle.snap_top.specs.Standing.{after_of, before_of}
 use Rattle.snap_top_instances.specs.Told.{HoldsFile}

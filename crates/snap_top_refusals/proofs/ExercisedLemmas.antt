@@ -10,9 +10,10 @@ use Rattle.snap_report.specs.declared.answer.Answer.{Answer}
 use Rattle.snap_report.specs.declared.events.Event.{Event}
 use Rattle.snap_top.specs.Complete.{IsSmoothExercise}
 use Rattle.snap_top.specs.Exercising.{AsksForExercise}
-use Rattle.snap_top.specs.Opening.{asked_by}
-use Rattle.snap_top.specs.Resumed.{RunOf}
-use Rattle.snap_top.specs.Run.{Entry, Exit, HasAccount, IsExercised, Ran}
+use Rattle.snap_top.specs.Asked.{asked_by}
+use Rattle.snap_top.specs.RunOf.{RunOf}
+use Rattle.snap_top.specs.Run.{HasAccount, IsExercised, Ran}
+use Rattle.snap_top.specs.Entry.{Entry, Exit}
 use Rattle.snap_top.specs.Standing.{after_of, before_of}
 use Rattle.snap_top.specs.declared.end.End.{End}
 use Rattle.snap_top.specs.declared.end.End.TheVariants.{Exercised, Refused, Worked}

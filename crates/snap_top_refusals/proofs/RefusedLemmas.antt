@@ -21,14 +21,16 @@ use Rattle.snap_top.specs.BrokeOff.{EndedEarly, WasRefused, WasUndone, is_undone
 use Rattle.snap_top.specs.Complete.{RefusalsTouchNothing, TouchesNothing}
 use Rattle.snap_top.specs.End.{ending_status, status_of}
 use Rattle.snap_top.specs.Exercising.{Exercises}
-use Rattle.snap_top.specs.History.{LastSynced}
+use Rattle.snap_top.specs.LastSynced.{LastSynced}
 use Rattle.snap_top.specs.Levels.{said_by}
-use Rattle.snap_top.specs.Resumed.{RunOf}
-use Rattle.snap_top.specs.Run.{Entry, Exit, HasAccount, IsAccounted, Ran}
+use Rattle.snap_top.specs.RunOf.{RunOf}
+use Rattle.snap_top.specs.Run.{HasAccount, IsAccounted, Ran}
+use Rattle.snap_top.specs.Entry.{Entry, Exit}
 use Rattle.snap_top.specs.Step.{RunStep}
-use Rattle.snap_top.specs.Standing.{BeginsOver, Damages, IsChanged, IsHistory, IsOrigin, MeetsNoChance, Stage, Standing, after_of, before_of, nothing_synced}
+use Rattle.snap_top.specs.Standing.{BeginsOver, Damages, IsChanged, IsHistory, IsOrigin, Stage, Standing, after_of, before_of, nothing_synced}
+use Rattle.snap_top.specs.Effect.{effect}
 use Rattle.snap_top.specs.Sync.{HoldsNoContent, IsFirstContent}
-use Rattle.snap_top.specs.Task.{Did}
+use Rattle.snap_top.specs.Did.{Did}
 use Rattle.snap_top.specs.Views.{world_of}
 use Rattle.snap_top.specs.declared.end.End.{End}
 use Rattle.snap_top.specs.declared.end.End.TheVariants.{Exercised, Refused, Worked}
@@ -161,7 +163,7 @@ module _ {O F V W : Type 0} (opener_view : O → OpenerView) (folder_view : F �
         let refused : (run.status ≡ 2) ⊎ (run.status ≡ 5) = subst (λ (n : ℕ). (n ≡ 2) ⊎ (n ≡ 5)) (sym runs.over.status_is) refuses in
         let opened : (ended run).has_vault ≡ true = ap (λ (v : Option V). is_some v) runs.over.vault_is in
         let headline = holds first standing stages origin history in
-        let genuine : MeetsNoChance step.always.did last.snapshot = subst (λ (did : Did). MeetsNoChance did last.snapshot) (sym (step.refused refused)) tt in
+        let genuine : (effect step.always.did).meets_no_chance last.snapshot = subst (λ (did : Did). (effect did).meets_no_chance last.snapshot) (sym (step.refused refused)) tt in
         let at_end = headline.arrives run begins step opened genuine in
         let untouched : TouchesNothing (begun run) (ended run) = runs.clauses.refused refused in
         let early : EndedEarly (begun run) (ended run) = early_of (begun run) (ended run) run.status (runs.account begins.tells.tells) refused in

@@ -24,18 +24,18 @@ use Rattle.snap_sync.specs.Calls.{level_bytes}
 use Rattle.snap_sync.specs.Closing.{rows_of, verified_in}
 use Rattle.snap_sync.specs.Images.{HasParity}
 use Rattle.snap_sync.specs.Part.{readings_by, run_trees, verified_stripes}
-use Rattle.snap_top.specs.Complete.{NothingBroke}
+use Rattle.snap_top.specs.Unbroken.{NothingBroke}
 use Rattle.snap_top.specs.Ended.{ByFaults, ByRun, HasEnded, has_failed_output}
 use Rattle.snap_top.specs.Headline.{SyncsWell}
 use Rattle.snap_top.specs.Levels.{said_by}
-use Rattle.snap_top.specs.Moment.{EndsInPart}
-use Rattle.snap_top.specs.Opening.{asked_by}
-use Rattle.snap_top.specs.Resumed.{RunOf}
-use Rattle.snap_top.specs.Run.{Entry, Exit, HasAccount}
+use Rattle.snap_top.specs.InPart.{EndsInPart}
+use Rattle.snap_top.specs.Asked.{asked_by, WorksOnArray}
+use Rattle.snap_top.specs.RunOf.{RunOf}
+use Rattle.snap_top.specs.Run.{HasAccount}
+use Rattle.snap_top.specs.Entry.{Entry, Exit}
 use Rattle.snap_top.specs.Standing.{BeginsOver, IsOrigin, Standing, after_of, before_of, nothing_synced}
 use Rattle.snap_top.specs.Step.{ChangesFiles}
 use Rattle.snap_top.specs.Sync.{BeginsFrom}
-use Rattle.snap_top.specs.Task.{WorksOnArray}
 use Rattle.snap_top.specs.Views.{folder_at}
 use Rattle.snap_top.specs.declared.end.Ending.TheVariants.{Answered}
 use Rattle.snap_top.proofs.AskedLemmas.{setup_read, well_in}

@@ -7,7 +7,7 @@ use Rattle.disk_model.specs.Vault.{VaultView}
 use Rattle.snap_report.specs.declared.answer.Answer.{Answer}
 use Rattle.snap_report.specs.declared.events.Event.{Event}
 use Rattle.snap_top.specs.Complete.{IsSmoothExercise, SmoothRunsAreDone}
-use Rattle.snap_top.specs.Resumed.{RunOf}
+use Rattle.snap_top.specs.RunOf.{RunOf}
 use Rattle.snap_top.specs.Run.{IsAccounted, IsExercised}
 use Rattle.snap_top.specs.Standing.{after_of, before_of}
 

@@ -11,11 +11,11 @@ use Rattle.file_table.specs.Table.{TableValue, records_in}
 use Rattle.snap_top.specs.BrokeOff.{EndedEarly}
 use Rattle.snap_top.specs.Complete.{TouchesNothing}
 use Rattle.snap_top.specs.Headline.{HoldsWhatStands}
-use Rattle.snap_top.specs.Resumed.{RunOf}
+use Rattle.snap_top.specs.RunOf.{RunOf}
 use Rattle.snap_top.specs.Standing.{BeginsOver, GoesOver, IsHistory, IsOrigin, Stage, Standing, after_of, before_of}
 use Rattle.snap_top.specs.Step.{RunStep}
 use Rattle.snap_top.specs.Sync.{HoldsNoContent, IsFirstContent}
-use Rattle.snap_top.specs.Task.{reads_only}
+use Rattle.snap_top.specs.Did.{reads_only}
 use Rattle.snap_top_instances.specs.Told.{HoldsFile}
 
 -- some copy of a vault is damaged, and none is a content file

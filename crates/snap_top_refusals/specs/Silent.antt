@@ -5,7 +5,7 @@ use Rattle.disk_model.specs.Opener.{OpenerView}
 use Rattle.disk_model.specs.Sink.{SinkView}
 use Rattle.disk_model.specs.Vault.{VaultView}
 use Rattle.snap_top.specs.End.{line_of, status_of}
-use Rattle.snap_top.specs.Resumed.{RunOf}
+use Rattle.snap_top.specs.RunOf.{RunOf}
 use Rattle.snap_top.specs.Run.{IsSaid}
 use Rattle.snap_top.specs.Standing.{after_of, before_of}
 use Rattle.snap_top.specs.declared.end.End.{End}

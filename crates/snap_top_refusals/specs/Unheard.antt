@@ -7,12 +7,15 @@ use Rattle.disk_model.specs.Sink.{SinkView}
 use Rattle.disk_model.specs.Vault.{VaultView}
 use Rattle.array_setup.specs.Setup.{SetupValue}
 use Rattle.snap_sync.specs.Closing.{verified_in}
-use Rattle.snap_top.specs.Complete.{NothingBroke}
-use Rattle.snap_top.specs.Ended.{HasEnded, has_ended}
+use Rattle.snap_top.specs.Unbroken.{NothingBroke}
+use Rattle.snap_top.specs.Ended.{HasEnded}
+use Rattle.snap_top.specs.Effect.{effect}
 use Rattle.snap_top.specs.Headline.{SyncsWell}
 use Rattle.snap_top.specs.Levels.{is_split, said_by}
-use Rattle.snap_top.specs.Moment.{EndsInPart, StandsAfter, SyncsEndInPart, TellsAll}
-use Rattle.snap_top.specs.Resumed.{RunOf}
+use Rattle.snap_top.specs.InPart.{EndsInPart}
+use Rattle.snap_top.specs.AsAsked.{SyncsEndInPart}
+use Rattle.snap_top.specs.Stands.{StandsAfter, TellsAll}
+use Rattle.snap_top.specs.RunOf.{RunOf}
 use Rattle.snap_top.specs.Run.{IsAccounted}
 use Rattle.snap_top.specs.Standing.{GoesOver, IsOrigin, Standing, after_of, before_of}
 use Rattle.snap_top.specs.SyncedLast.{IsSyncedLast}
@@ -60,7 +63,7 @@ module _ {O F V W : Type 0} (opener_view : O → OpenerView) (folder_view : F �
     pub some : 0 < length ends.run.readings
     pub some_by_run : 0 < length ends_by_run.run.readings
     pub unheard : IsTrue ends.output_failed
-    pub done : has_ended goes.step.always.did ≡ true
+    pub done : (effect goes.step.always.did).has_ended ≡ true
     pub stands : StandsAfter (after_of opener_view folder_view vault_view sink_view run) next.files
     pub synced : IsSyncedLast (before_of opener_view folder_view vault_view sink_view run) (after_of opener_view folder_view vault_view sink_view run)
         run.status goes.step.always.did first next

@@ -27,12 +27,13 @@ use Rattle.stripe_examiner.specs.declared.search.Wanted.{Wanted}
 use Rattle.stripe_reader.specs.SlotValue.{SlotValue}
 use Rattle.stripe_reader.specs.WindowValue.{no_slot}
 use Rattle.stripe_reader.specs.declared.slot.Found.{Found}
-use Rattle.snap_top.specs.Alike.{AskAlike, FixAlike, HoldAlike, KeptAlike, NothingRose}
+use Rattle.snap_top.specs.Alike.{AskAlike, FixAlike, HoldAlike, KeptAlike}
+use Rattle.snap_top.specs.Unbroken.{NothingRose}
 use Rattle.snap_top.specs.Check.{CheckRun}
 use Rattle.snap_top.specs.Fix.{FixRun}
 use Rattle.snap_top.specs.Naming.{HasChecked}
 use Rattle.snap_top.specs.Restoring.{EndsFixed}
-use Rattle.snap_top.specs.Run.{Entry, Exit}
+use Rattle.snap_top.specs.Entry.{Entry, Exit}
 use Rattle.snap_top.specs.Undamaged.{IsUndamaged}
 use Rattle.snap_top.proofs.AlikeLemmas.{FixFindsWhatACheckFinds}
 use Rattle.snap_top.proofs.HeldLemmas.{CameAsHeld, lists_same}

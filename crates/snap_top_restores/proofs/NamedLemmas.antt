@@ -34,17 +34,18 @@ use Rattle.snap_top.specs.Check.{CheckRun}
 use Rattle.snap_top.specs.Ended.{ByStatus}
 use Rattle.snap_top.specs.Fix.{FixRun}
 use Rattle.snap_top.specs.Headline.{Headline}
-use Rattle.snap_top.specs.History.{AreSoundBy, LastSynced, synced_by}
+use Rattle.snap_top.specs.LastSynced.{AreSoundBy, LastSynced, synced_by}
 use Rattle.snap_top.specs.Levels.{said_by}
 use Rattle.snap_top.specs.Lost.{IsDamagedOfSynced, NamesLost}
-use Rattle.snap_top.specs.Moment.{IsFixOf, rows_closed, levels_closed}
+use Rattle.snap_top.specs.Effect.{effect}
+use Rattle.snap_top.specs.Began.{IsFixOf}
 use Rattle.snap_top.specs.Naming.{EndsChecked, events_found}
 use Rattle.snap_top.specs.Restoring.{EndsFixed, events_in}
-use Rattle.snap_top.specs.Resumed.{RunOf}
-use Rattle.snap_top.specs.Run.{Entry, Exit}
+use Rattle.snap_top.specs.RunOf.{RunOf}
+use Rattle.snap_top.specs.Entry.{Entry, Exit}
 use Rattle.snap_top.specs.Standing.{BeginsOver, Edits, GoesOver, IsHistory, IsOrigin, Runs, Stage, Standing, after_of, before_of, nothing_synced}
 use Rattle.snap_top.specs.Taken.{IsTakenFrom}
-use Rattle.snap_top.specs.Task.{fixes}
+use Rattle.snap_top.specs.Did.{fixes}
 use Rattle.snap_top.specs.Undamaged.{IsUndamaged}
 use Rattle.snap_top.proofs.AlikeLemmas.{FixFindsWhatACheckFinds}
 use Rattle.snap_top.proofs.AskedLemmas.{unfailed}
@@ -204,7 +205,7 @@ module _ {O F V W : Type 0} (opener_view : O → OpenerView) (folder_view : F �
       → (stripe level : ℕ) → next.last.is_changed stripe level ≡ false
   unchanged_then once first next origin goes stripe level =
       ap (λ (last : LastSynced). last.is_changed stripe level) (goes.last ∙ ap (λ (last : LastSynced). synced_by goes.step.always.did goes.count last) origin.nothing)
-      ∙ unchanged_without (levels_closed goes.step.always.did) (rows_closed goes.step.always.did goes.count) nothing_synced.is_changed stripe level refl
+      ∙ unchanged_without (effect goes.step.always.did).levels_closed ((effect goes.step.always.did).rows_closed goes.count) nothing_synced.is_changed stripe level refl
 
   module _ (holds : Always) (meets : MeetsNone opener_view folder_view vault_view sink_view) (intact : LevelsAreIntact) (determined : IsDetermined) (in_mode : FactsInMode) (says : FixFindsWhatACheckFinds)
       (one_table : OneTable) (texts others : List (List ℕ)) (status status_then : ℕ) (two : AreRunOverLost opener_view folder_view vault_view sink_view texts others status status_then)

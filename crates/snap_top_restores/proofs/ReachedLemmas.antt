@@ -37,14 +37,16 @@ use Rattle.stripe_examiner.specs.Showing.{known_block, known_by}
 use Rattle.stripe_examiner.proofs.ShownLemmas.{known_block_is}
 use Rattle.snap_top.specs.Fix.{FixRun}
 use Rattle.snap_top.specs.Headline.{FixesToItsEnd, IsSoundStanding}
-use Rattle.snap_top.specs.History.{AreSoundBy, LastSynced, synced_by}
-use Rattle.snap_top.specs.Moment.{IsFixOf, TellsAll, rows_closed, levels_closed}
-use Rattle.snap_top.specs.Opening.{asked_by}
+use Rattle.snap_top.specs.LastSynced.{AreSoundBy, LastSynced, synced_by}
+use Rattle.snap_top.specs.Effect.{effect}
+use Rattle.snap_top.specs.Began.{IsFixOf}
+use Rattle.snap_top.specs.Stands.{TellsAll}
+use Rattle.snap_top.specs.Asked.{asked_by}
 use Rattle.snap_top.specs.RestoredLast.{IsInReach, IsRestored}
 use Rattle.snap_top.specs.Restoring.{EndsFixed, Restores, events_in}
-use Rattle.snap_top.specs.Resumed.{RunOf}
-use Rattle.snap_top.specs.Run.{Entry, Exit}
-use Rattle.snap_top.specs.Standing.{BeginsOver, Edits, GoesOver, IsHistory, IsOrigin, MeetsNoChance, Runs, Stage, Standing, after_of, before_of, nothing_synced}
+use Rattle.snap_top.specs.RunOf.{RunOf}
+use Rattle.snap_top.specs.Entry.{Entry, Exit}
+use Rattle.snap_top.specs.Standing.{BeginsOver, Edits, GoesOver, IsHistory, IsOrigin, Runs, Stage, Standing, after_of, before_of, nothing_synced}
 use Rattle.snap_top.specs.Undamaged.{HasEnough, IsRecoverable, IsUndamaged, is_read, undamaged_levels, was_read}
 use Rattle.snap_top.specs.Views.{folder_at}
 use Rattle.snap_top.proofs.HeldLemmas.{levels_given, none_risen}
@@ -260,7 +262,7 @@ module _ {O F V W : Type 0} (opener_view : O → OpenerView) (folder_view : F �
       → (stripe level : ℕ) → next.last.is_changed stripe level ≡ false
   unchanged_then once first next origin goes stripe level =
       ap (λ (last : LastSynced). last.is_changed stripe level) (goes.last ∙ ap (λ (last : LastSynced). synced_by goes.step.always.did goes.count last) origin.nothing)
-      ∙ unchanged_without (levels_closed goes.step.always.did) (rows_closed goes.step.always.did goes.count) nothing_synced.is_changed stripe level refl
+      ∙ unchanged_without (effect goes.step.always.did).levels_closed ((effect goes.step.always.did).rows_closed goes.count) nothing_synced.is_changed stripe level refl
 
   -- by all that stands
   reached_by : (first standing next : Standing) (stages : List (Stage O F V W)) (run : RunOf O F V W) (status : ℕ) → LevelsAreIntact → CellsAreRestored → IsOrigin first
@@ -345,7 +347,7 @@ module _ {O F V W : Type 0} (opener_view : O → OpenerView) (folder_view : F �
       let history : IsHistory opener_view folder_view vault_view sink_view once.first stages standing = (once.goes, (once.stands, refl)) in
       let headline = holds once.first standing stages once.origin history in
       let step = runs.over.step in
-      let genuine : MeetsNoChance step.always.did once.next.last.snapshot
+      let genuine : (effect step.always.did).meets_no_chance once.next.last.snapshot
       = meets once.run run once.first once.next (trees_of folders) step.always.did once.origin once.goes once.taken
       (subst (λ (s : Standing). BeginsOver s (begun run)) once.stands (runs.over.begins once.next.last)) step.always.is_did in
       let at_end = headline.arrives run (runs.over.begins once.next.last) step (ap (λ (v : Option V). is_some v) runs.over.vault_is) genuine in

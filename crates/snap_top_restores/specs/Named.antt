@@ -12,10 +12,11 @@ use Rattle.snap_fix.specs.Genuine.{AreGenuine, held_row}
 use Rattle.snap_fix.specs.Restored.{CanBeHad}
 use Rattle.snap_sync.specs.Part.{tree_at}
 use Rattle.stripe_examiner.specs.Facts.{StripeFacts}
-use Rattle.snap_top.specs.Alike.{HoldAlike, NothingRose}
+use Rattle.snap_top.specs.Alike.{HoldAlike}
+use Rattle.snap_top.specs.Unbroken.{NothingRose}
 use Rattle.snap_top.specs.Lost.{IsDamagedOfSynced, IsToldLost, NamesLost}
 use Rattle.snap_top.specs.Naming.{EndsChecked, events_found}
-use Rattle.snap_top.specs.Resumed.{RunOf}
+use Rattle.snap_top.specs.RunOf.{RunOf}
 use Rattle.snap_top.specs.Standing.{BeginsOver, GoesOver, IsHistory, IsOrigin, Stage, Standing, after_of, before_of}
 use Rattle.snap_top.specs.Sync.{IsFirstContent}
 use Rattle.snap_top.specs.Taken.{OnlyTakenAway}

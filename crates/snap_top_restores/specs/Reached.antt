@@ -16,7 +16,7 @@ use Rattle.stripe_examiner.specs.Known.{whole_level}
 use Rattle.snap_top.specs.Lost.{IsToldLost}
 use Rattle.snap_top.specs.RestoredLast.{HasLast, IsInReach, IsRestored}
 use Rattle.snap_top.specs.Restoring.{Restores, events_in}
-use Rattle.snap_top.specs.Resumed.{RunOf}
+use Rattle.snap_top.specs.RunOf.{RunOf}
 use Rattle.snap_top.specs.Standing.{GoesOver, IsHistory, IsOrigin, Stage, Standing, after_of, before_of}
 use Rattle.snap_top.specs.Undamaged.{HasEnough, IsRecoverable, IsUndamaged}
 use Rattle.snap_top.specs.Views.{folder_at}

@@ -10,11 +10,12 @@ use Rattle.disk_model.specs.Vault.{VaultView}
 use Rattle.disk_memory.specs.Vault.{VaultValue, fresh_vault, view_of}
 use Rattle.snap_config.specs.declared.options.Command.TheVariants as commands
 use Rattle.snap_sync.specs.Part.{tree_at, trees_of}
-use Rattle.snap_top.specs.Resumed.{RunOf}
-use Rattle.snap_top.specs.Run.{Entry, Exit}
+use Rattle.snap_top.specs.RunOf.{RunOf}
+use Rattle.snap_top.specs.Entry.{Entry, Exit}
 use Rattle.snap_top.specs.Standing.{IsOrigin, Standing, after_of, before_of, nothing_synced}
 use Rattle.snap_top.specs.Stopping.{FolderStandsIn}
-use Rattle.snap_top.specs.Task.{Did, fixes, has_fixed, reads_only, scrubs, syncs}
+use Rattle.snap_top.specs.Effect.{effect}
+use Rattle.snap_top.specs.Did.{Did, fixes, reads_only, scrubs, syncs}
 use Rattle.snap_top.specs.Views.{folder_at}
 use Rattle.snap_top_histories.specs.Lived.{AskForNoFix, IsNoFix, standing_of}
 use Rattle.snap_top_histories.proofs.LivedLemmas.{IsNotFixing, quiet_run, trees_kept}
@@ -25,7 +26,7 @@ use Rattle.snap_top_stops.specs.Stopped.{all_tell_calls}
 use Rattle.snap_top_instances.specs.Told.{HoldsFile, RunsTold}
 use Rattle.snap_top_stops.proofs.StoppedLemmas.{tells_at}
 
-fixed_nothing : (did : Did) → IsNotFixing did → has_fixed did ≡ false
+fixed_nothing : (did : Did) → IsNotFixing did → (effect did).writes_files ≡ false
 fixed_nothing reads_only not = refl
 fixed_nothing (syncs failed run) not = refl
 fixed_nothing (scrubs failed run) not = refl
@@ -62,7 +63,7 @@ module _ {O F V W : Type 0} (opener_view : O → OpenerView) (folder_view : F �
       let step = runs.over.step in
       let opened : (ended run).has_vault ≡ true = ap (λ (v : Option V). is_some v) runs.over.vault_is in
       let did : Did = step.always.did in
-      let none : has_fixed did ≡ false
+      let none : (effect did).writes_files ≡ false
       = fixed_nothing did (quiet_run opener_view folder_view vault_view sink_view config texts seed folders (view_of value) status left_folders left runs.over no_fix did step.always.is_did) in
       let kept : trees_of (map folder_view left_folders) ≡ trees_of folders
       = trees_kept opener_view folder_view vault_view sink_view config texts seed folders (view_of value) nothing_synced status left_folders left headline runs.over no_fix in

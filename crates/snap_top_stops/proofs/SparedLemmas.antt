@@ -28,10 +28,10 @@ use Rattle.repair_scope.specs.Blocked.{found_in}
 use Rattle.repair_scope.specs.Plan.{FixPlan, cell_at, column_entries, entries_of, entry_at, entry_in, entry_of, has_selected, has_selected_cell, has_selected_level, is_in_scope, is_looked_at, names_of, no_entry, selects_cell, stripes_of}
 use Rattle.repair_scope.specs.Selected.{selects}
 use Rattle.repair_scope.specs.declared.entry.Entry.{Entry as PlanEntry}
-use Rattle.snap_top.specs.Alike.{NothingRose}
+use Rattle.snap_top.specs.Unbroken.{NothingRose}
 use Rattle.snap_top.specs.Fix.{FixRun, FixesOver}
-use Rattle.snap_top.specs.Moment.{IsFixOf}
-use Rattle.snap_top.specs.Run.{Entry, Exit}
+use Rattle.snap_top.specs.Began.{IsFixOf}
+use Rattle.snap_top.specs.Entry.{Entry, Exit}
 use Rattle.snap_top.specs.Spared.{IsLeftAlone, SparesRest}
 use Rattle.snap_top.specs.Standing.{BeginsOver, Standing}
 use Rattle.snap_top.specs.Sync.{IsFirstContent}
@@ -175,7 +175,7 @@ fix_asked texts asks = record { asked = asks.asked; selection = missing_alone; w
 -- In a stripe of a file that is missing, a fix of missing files leaves the cell of a file alone that stands.
 pub spares_one : (standing next : Standing) (fix : FixRun) (before : Entry) (exit : Exit) (stripe d : ℕ) (path name : List ℕ) → BeginsOver standing before → IsFixOf before exit fix
     → AsksMissing before.texts → numbers_of (facts_of fix.stripes) ≡ stripes_of fix.plan → IsCellAt fix.plan.table stripe d path → IsCellAt fix.plan.table stripe 0 name
-    → file_of (tree_at standing.trees d) path ≢ None → file_of (tree_at standing.trees 0) name ≡ None → SparesRest fix standing next → SparesOne fix standing next
+    → file_of (tree_at standing.trees d) path ≢ None → file_of (tree_at standing.trees 0) name ≡ None → SparesRest fix standing.trees next.trees standing.files next.files → SparesOne fix standing next
 spares_one standing next fix before exit stripe d path name over is asks numbers kept lost there gone spares =
     let copies : ℕ = copies_of before.opener.vault in
     let vault : VaultView = before.opener.vault in

@@ -8,14 +8,17 @@ use Rattle.disk_model.specs.Sink.{SinkView}
 use Rattle.disk_model.specs.Vault.{VaultView, copies_of}
 use Rattle.disk_memory.specs.Vault.{VaultValue, fresh_vault, view_of}
 use Rattle.snap_top.specs.Ended.{ByStatus}
-use Rattle.snap_top.specs.History.{AreSoundBy, IsChange, IsHistory, LastSynced, RunsOver as RunsFrom, StaysSound, Step, synced_by}
+use Rattle.snap_top.specs.History.{IsHistory, RunsOver as RunsFrom, StaysSound, Step}
+use Rattle.snap_top.specs.LastSynced.{AreSoundBy, IsChange, LastSynced, synced_by}
 use Rattle.snap_top.specs.Levels.{said_by}
-use Rattle.snap_top.specs.Moment.{StandsIn, SyncsToItsEnd, rows_closed, levels_closed}
-use Rattle.snap_top.specs.Opening.{asked_by}
-use Rattle.snap_top.specs.Resumed.{RunOf, StoppedRun}
-use Rattle.snap_top.specs.Run.{Entry, Exit}
+use Rattle.snap_top.specs.Moment.{SyncsToItsEnd}
+use Rattle.snap_top.specs.Effect.{effect}
+use Rattle.snap_top.specs.Stands.{StandsIn}
+use Rattle.snap_top.specs.Asked.{asked_by}
+use Rattle.snap_top.specs.RunOf.{RunOf, StoppedRun}
+use Rattle.snap_top.specs.Entry.{Entry, Exit}
 use Rattle.snap_top.specs.Standing.{IsOrigin, Standing, after_of, before_of, nothing_synced}
-use Rattle.snap_top.specs.Task.{Did}
+use Rattle.snap_top.specs.Did.{Did}
 use Rattle.snap_top_histories.specs.Changed.{IsChangedLevel}
 use Rattle.snap_top_histories.specs.Lived.{AskForSync, IsLeftOf, RunsOver, files_seen, standing_of}
 use Rattle.snap_top_histories.proofs.LivedLemmas.{stands_left}
@@ -47,7 +50,7 @@ level_lost config old new copies changed whole did count =
     let one_each : splits (said_by config) ≡ false = ap splits whole.says ∙ whole.whole in
     record {
       contents = λ copy below. inl (copy, below, ap (λ (cs : List (Option (List ℕ))). get_or cs copy None) (contents_seen (said_by config) new ∙ changed.contents ∙ sym (contents_seen (said_by config) old)));
-      counted = λ stripe level is. unchanged_without (levels_closed did) (rows_closed did count) nothing_synced.is_changed stripe level refl;
+      counted = λ stripe level is. unchanged_without (effect did).levels_closed ((effect did).rows_closed count) nothing_synced.is_changed stripe level refl;
       parity = λ copy table stripe level below valid spells is.
           let same : parity_of (files_seen config new) level ≡ parity_of (files_seen config old) level
           = ap (λ (fs : Files). parity_of fs level) (files_whole (said_by config) new one_each) ∙ changed.others level (other_level level is)

@@ -16,19 +16,19 @@ use Rattle.snap_fix.specs.Fixing.{facts_of}
 use Rattle.snap_sync.specs.Part.{tree_at, trees_of}
 use Rattle.stripe_examiner.specs.Looking.{numbers_of}
 use Rattle.repair_scope.specs.Plan.{stripes_of}
-use Rattle.snap_top.specs.Ended.{has_ended}
+use Rattle.snap_top.specs.Effect.{effect}
 use Rattle.snap_top.specs.Fix.{FixRun}
 use Rattle.snap_top.specs.Levels.{said_by}
-use Rattle.snap_top.specs.Moment.{IsDidOf, IsFixOf}
-use Rattle.snap_top.specs.Resumed.{RunOf}
-use Rattle.snap_top.specs.Run.{Entry, Exit}
-use Rattle.snap_top.specs.Spared.{SparesBy, SparesRest}
+use Rattle.snap_top.specs.Began.{IsFixOf}
+use Rattle.snap_top.specs.RunOf.{RunOf}
+use Rattle.snap_top.specs.Entry.{Entry, Exit}
+use Rattle.snap_top.specs.Spared.{SparesRest}
 use Rattle.snap_top.specs.Standing.{BeginsOver, GoesOver, LeavesTrees, Stage, Standing, after_of, before_of}
-use Rattle.snap_top.specs.Step.{ChangesFiles, EndsBy}
+use Rattle.snap_top.specs.Step.{ChangesFiles}
 use Rattle.snap_top.specs.Stopping.{FolderStandsIn}
 use Rattle.snap_top.specs.Sync.{IsFirstContent}
 use Rattle.snap_top.specs.Taken.{OnlyTakenAway}
-use Rattle.snap_top.specs.Task.{Did, fixes}
+use Rattle.snap_top.specs.Did.{Did, fixes}
 use Rattle.snap_top.specs.Views.{calls_since, folder_at}
 use Rattle.snap_top.proofs.SyncedLemmas.{OneTable}
 use Rattle.snap_top_histories.specs.Lived.{AskForFix, IsLeftOf, RunsOver, files_seen, standing_of}
@@ -157,8 +157,8 @@ module _ {O F V W : Type 0} (opener_view : O → OpenerView) (folder_view : F �
         → length next.trees ≡ length left_folders → all_tell_calls folder_view left_folders ≡ true
         → (d : ℕ) → d < length standing.trees → IsTrue (folder_at (ended run).after.folders d).tells_calls
     told_at next fix goes did_is as_many told d below =
-        let leaves : LeavesTrees (fixes false fix) (begun run) (ended run) standing.trees next.trees
-        = subst (λ (did : Did). LeavesTrees did (begun run) (ended run) standing.trees next.trees) did_is goes.trees in
+        let leaves : LeavesTrees (effect (fixes false fix)).writes_files (begun run) (ended run) standing.trees next.trees
+        = subst (λ (did : Did). LeavesTrees (effect did).writes_files (begun run) (ended run) standing.trees next.trees) did_is goes.trees in
         subst (λ (fs : List F). IsTrue (folder_at (map folder_view fs) d).tells_calls) (sym runs.folders_are)
         (tells_at folder_view left_folders told d (omega (arith, below, leaves.0, as_many)))
 
@@ -167,10 +167,10 @@ module _ {O F V W : Type 0} (opener_view : O → OpenerView) (folder_view : F �
         → length next.trees ≡ length left_folders → all_tell_calls folder_view left_folders ≡ true → IsSparedStop opener_view folder_view vault_view sink_view run standing
     spared_stop later asks few next its as_many told =
         let first_fix = fix_of opener_view folder_view vault_view sink_view run its.over.tells.tells asks its.step few in
-        let stay : LeavesTrees (fixes false first_fix.0) (begun run) (ended run) standing.trees standing.trees
+        let stay : LeavesTrees (effect (fixes false first_fix.0)).writes_files (begun run) (ended run) standing.trees standing.trees
         = (refl, λ d below. stands_in later standing (begun run) (ended run) its.over d below (told_at next first_fix.0 its first_fix.1 as_many told d below)) in
-        let leaves : LeavesTrees its.step.always.did (begun run) (ended run) standing.trees standing.trees
-        = subst (λ (did : Did). LeavesTrees did (begun run) (ended run) standing.trees standing.trees) (sym first_fix.1) stay in
+        let leaves : LeavesTrees (effect its.step.always.did).writes_files (begun run) (ended run) standing.trees standing.trees
+        = subst (λ (did : Did). LeavesTrees (effect did).writes_files (begun run) (ended run) standing.trees standing.trees) (sym first_fix.1) stay in
         let is_history = history opener_view folder_view vault_view sink_view config texts seed folders vault made before status left_folders left holds meets once runs in
         let headline = holds once.first standing all once.origin is_history in
         let at = headline.goes_on run next.files standing.trees its.over its.step its.files leaves its.genuine in
@@ -182,7 +182,7 @@ module _ {O F V W : Type 0} (opener_view : O → OpenerView) (folder_view : F �
           goes = at.3;
           did_is = fix.1;
           stopped = at.2;
-          spares = subst (λ (did : Did). SparesBy did standing at.0) fix.1 (headline.spares run at.0 at.3);
+          spares = subst (λ (did : Did). (effect did).spares standing.trees at.0.trees standing.files at.0.files) fix.1 (headline.spares run at.0 at.3);
         }
 
     -- the table that was loaded of what the run left of the vault is that of the first copy that stood before it
@@ -193,7 +193,8 @@ module _ {O F V W : Type 0} (opener_view : O → OpenerView) (folder_view : F �
         let fix = fix_of opener_view folder_view vault_view sink_view run its.over.tells.tells asks its.step few in
         let is_history = history opener_view folder_view vault_view sink_view config texts seed folders vault made before status left_folders left holds meets once runs in
         let headline = holds once.first standing all once.origin is_history in
-        let spares : SparesRest fix.0 standing next = subst (λ (did : Did). SparesBy did standing next) fix.1 (headline.spares run next its) in
+        let spares : SparesRest fix.0 standing.trees next.trees standing.files next.files
+        = subst (λ (did : Did). (effect did).spares standing.trees next.trees standing.files next.files) fix.1 (headline.spares run next its) in
         let contents : (begun run).opener.vault.files.contents ≡ made.files.contents
         = ap (λ (files : Files). files.contents) its.over.files ∙ sym spares.vault.contents ∙ ap (λ (files : Files). files.contents) files_are ∙ contents_seen (said_by config) made in
         content_by (copies_of made) (copies_of (begun run).opener.vault) made.files (begun run).opener.vault.files table (as_many ∙ sym its.over.copies) contents content
@@ -202,8 +203,8 @@ module _ {O F V W : Type 0} (opener_view : O → OpenerView) (folder_view : F �
     all_looked_at : (next : Standing) (failed : Bool) (fix : FixRun) → (goes : GoesOver opener_view folder_view vault_view sink_view run standing next) → goes.step.always.did ≡ fixes failed fix
         → AskForFix run.texts → run.status ≤ 1 → numbers_of (facts_of fix.stripes) ≡ stripes_of fix.plan
     all_looked_at next failed fix goes did_is asks few =
-        let done : has_ended goes.step.always.did ≡ true = goes.step.done asks.asked asks.words (subst ChangesFiles (sym asks.command_is) tt) (inl few) in
-        let ends : EndsBy (fixes failed fix) (begun run) (ended run) run.status = subst (λ (did : Did). EndsBy did (begun run) (ended run) run.status) did_is (goes.step.at_end done) in
+        let done : (effect goes.step.always.did).has_ended ≡ true = goes.step.done asks.asked asks.words (subst ChangesFiles (sym asks.command_is) tt) (inl few) in
+        let ends : (effect (fixes failed fix)).ends (begun run) (ended run) run.status = subst (λ (did : Did). (effect did).ends (begun run) (ended run) run.status) did_is (goes.step.at_end done) in
         let its = ends goes.over.tells.tells_folders in
         subst (λ (it : FixRun). numbers_of (facts_of it.stripes) ≡ stripes_of it.plan) its.1 its.0.fixed.numbers
 
@@ -219,16 +220,17 @@ module _ {O F V W : Type 0} (opener_view : O → OpenerView) (folder_view : F �
         let asks_fix : AskForFix run.texts = fix_asked run.texts asks_run in
         let few_ran : run.status ≤ 1 = few_is run.status status 1 runs.status_is few in
         let stop = spared_stop later asks_fix few_ran next going.1 many told in
-        let is : IsFixOf (begun run) (ended run) stop.fix = subst (λ (did : Did). IsDidOf (begun run) (ended run) did) stop.did_is stop.goes.step.always.is_did in
+        let is : IsFixOf (begun run) (ended run) stop.fix = subst (λ (did : Did). (effect did).is_of (begun run) (ended run)) stop.did_is stop.goes.step.always.is_did in
         let content = content_before next refl going.1 asks_fix few_ran as_many has.table has.content in
         let well = nothing_rose opener_view folder_view vault_view sink_view config texts seed folders vault status left_folders left runs faults calm in
         let kept : IsCellAt stop.fix.plan.table stripe d path = planned_at stop.fix (begun run) (ended run) has.table stripe d path one_table is well content has.kept in
         let lost : IsCellAt stop.fix.plan.table stripe 0 name = planned_at stop.fix (begun run) (ended run) has.table stripe 0 name one_table is well content has.lost in
         let is_history = history opener_view folder_view vault_view sink_view config texts seed folders vault made before status left_folders left holds meets once runs in
         let at_end = fix_of opener_view folder_view vault_view sink_view run going.1.over.tells.tells asks_fix going.1.step few_ran in
-        let is_then : IsFixOf (begun run) (ended run) at_end.0 = subst (λ (did : Did). IsDidOf (begun run) (ended run) did) at_end.1 going.1.step.always.is_did in
+        let is_then : IsFixOf (begun run) (ended run) at_end.0 = subst (λ (did : Did). (effect did).is_of (begun run) (ended run)) at_end.1 going.1.step.always.is_did in
         let headline = holds once.first standing all once.origin is_history in
-        let spares : SparesRest at_end.0 standing next = subst (λ (did : Did). SparesBy did standing next) at_end.1 (headline.spares run next going.1) in
+        let spares : SparesRest at_end.0 standing.trees next.trees standing.files next.files
+        = subst (λ (did : Did). (effect did).spares standing.trees next.trees standing.files next.files) at_end.1 (headline.spares run next going.1) in
         record {
           first = once.first;
           standing = standing;

@@ -19,17 +19,20 @@ use Rattle.array_setup.specs.declared.ways.SyncWay.{SyncWay}
 use Rattle.snap_config.specs.declared.options.Options.{Options}
 use Rattle.snap_sync.specs.Images.{MayStand}
 use Rattle.snap_sync.specs.Part.{AllTell, SyncRun, trees_of}
-use Rattle.snap_top.specs.Ended.{has_ended}
-use Rattle.snap_top.specs.History.{AreSoundBy, LastSynced}
+use Rattle.snap_top.specs.Effect.{effect}
+use Rattle.snap_top.specs.LastSynced.{AreSoundBy, LastSynced}
 use Rattle.snap_top.specs.Levels.{said_by}
-use Rattle.snap_top.specs.Moment.{ChangesNothing, EndsInPart, IsDidOf, IsSoundAlways, LoadsWell, StandsIn}
-use Rattle.snap_top.specs.Opening.{asked_by}
-use Rattle.snap_top.specs.Resumed.{AreStoppedRuns, AsksForSync, EndAlike, EndsClean, IsBetween, IsStopped, RunOf, StoppedRun}
-use Rattle.snap_top.specs.Run.{Entry, Exit}
+use Rattle.snap_top.specs.Moment.{IsSoundAlways}
+use Rattle.snap_top.specs.InPart.{EndsInPart}
+use Rattle.snap_top.specs.Asked.{asked_by, ChangesNothing}
+use Rattle.snap_top.specs.Stands.{StandsIn}
+use Rattle.snap_top.specs.Resumed.{AreStoppedRuns, AsksForSync, EndsClean, IsBetween, IsStopped, AreStopped, Stop, StopsFrom}
+use Rattle.snap_top.specs.RunOf.{RunOf, StoppedRun}
+use Rattle.snap_top.specs.Entry.{Entry, Exit}
 use Rattle.snap_top.specs.Standing.{IsOrigin, Runs, Standing, after_of, before_of, nothing_synced}
-use Rattle.snap_top.specs.Step.{ChangesFiles, EndsBy}
-use Rattle.snap_top.specs.Sync.{AreStopped, HasNoCopy, Stop, StopsFrom}
-use Rattle.snap_top.specs.Task.{Did, end_table, fixes, may_stand, reads_only, scrubs, syncs}
+use Rattle.snap_top.specs.Step.{ChangesFiles}
+use Rattle.snap_top.specs.Sync.{HasNoCopy, EndAlike, end_table}
+use Rattle.snap_top.specs.Did.{Did, fixes, reads_only, scrubs, syncs}
 use Rattle.snap_top.proofs.AskedLemmas.{command_asked, well_in}
 use Rattle.snap_top.proofs.ResumedRuns.{SyncsAreResumed, from_files, full_of, of_array, same_copies}
 use Rattle.snap_top_histories.specs.Lived.{AskForNoFix, AskForSync, IsLeftOf, IsNoFix, RunsOver, files_seen, standing_of}
@@ -84,7 +87,7 @@ pub record EndsSynced (before : Entry) (exit : Exit) (status : ℕ) (did : Did) 
   pub did_is : did ≡ syncs false ends.run
 
 module _ (before : Entry) (exit : Exit) (status : ℕ) (tells : IsTrue before.opener.tells) (asked : Options) (words : asked_by before.texts ≡ Ok asked) (way : SyncWay) (command : asked.command ≡ commands.Sync way) where
-  pub synced_did : (did : Did) → IsDidOf before exit did → has_ended did ≡ true → EndsBy did before exit status → AllTell before.opener.folders → EndsSynced before exit status did
+  pub synced_did : (did : Did) → (effect did).is_of before exit → (effect did).has_ended ≡ true → (effect did).ends before exit status → AllTell before.opener.folders → EndsSynced before exit status did
   synced_did reads_only is done ends told = absurd (let clash : false ≡ true = done in cc)
   synced_did (syncs true sync) is done ends told = absurd (let clash : false ≡ true = done in cc)
   synced_did (syncs false sync) is done ends told = record { ends = (ends told).0; did_is = ap (λ (run : SyncRun). syncs false run) (sym (ends told).1) }
@@ -119,7 +122,7 @@ module _ {O F V W : Type 0} (opener_view : O → OpenerView) (folder_view : F �
       → EndAlike (length setup.contents) is_changed one other
 
   abbrev pub IsKnownByNone : Type 0
-  IsKnownByNone = (run : RunOf O F V W) (always : IsSoundAlways (begun run) (ended run) run.status) → NoneFailed run → LoadsWell (begun run) (ended run) always.did always.is_did
+  IsKnownByNone = (run : RunOf O F V W) (always : IsSoundAlways (begun run) (ended run) run.status) → NoneFailed run → (effect always.did).loads_well (begun run) (ended run) always.is_did
 
   -- ---- a sync that ended with status 0
 
@@ -157,7 +160,7 @@ module _ {O F V W : Type 0} (opener_view : O → OpenerView) (folder_view : F �
       let step = runs.step in
       let for_sync = asks_sync config texts seed folders vault trees status left_folders left runs asks same in
       let words : asked_by (begun runs.run).texts ≡ Ok asks.asked = subst (λ (ts : List (List ℕ)). asked_by ts ≡ Ok asks.asked) (sym runs.texts_are) asks.words in
-      let done : has_ended step.always.did ≡ true = step.done asks.asked words (subst ChangesFiles (sym asks.command_is) tt) (inl (omega (arith, runs.status_is, well))) in
+      let done : (effect step.always.did).has_ended ≡ true = step.done asks.asked words (subst ChangesFiles (sym asks.command_is) tt) (inl (omega (arith, runs.status_is, well))) in
       let its : EndsSynced (begun runs.run) (ended runs.run) runs.run.status step.always.did
       = synced_did (begun runs.run) (ended runs.run) runs.run.status for_sync.tells.tells asks.asked words asks.way asks.command_is step.always.did step.always.is_did done (step.at_end done) for_sync.tells.tells_folders in
       record {
@@ -199,7 +202,7 @@ module _ {O F V W : Type 0} (opener_view : O → OpenerView) (folder_view : F �
     stops_from files left run did stands =
         let its : SyncRun = did.ends.run in
         let moved : MayStand its.plan its.readings (begun run).opener.vault.files left
-        = subst (λ (d : Did). may_stand d (begun run).opener.vault.files left) did.did_is (did.always.moments left stands) in
+        = subst (λ (d : Did). (effect d).may_stand (begun run).opener.vault.files left) did.did_is (did.always.moments left stands) in
         record {
           syncs = from_files setup trees seed files (begun run) (ended run) did.asks its did.ends.is_sync (clean_of files run did).reads_well;
           of_array = of_array setup trees seed files (begun run) (ended run) did.asks its did.ends.is_sync;
@@ -229,7 +232,7 @@ module _ {O F V W : Type 0} (opener_view : O → OpenerView) (folder_view : F �
     stays : (files : Files) (stop : StoppedRun O F V W) → Between files stop → stop.left ≡ files
     stays files stop between =
         let always : IsSoundAlways (begun stop.run) (ended stop.run) stop.run.status = between.sound between.fresh in
-        subst (λ (did : Did). may_stand did (begun stop.run).opener.vault.files stop.left) (always.reads between.asked between.words between.command_is) (always.moments stop.left between.stands)
+        subst (λ (did : Did). (effect did).may_stand (begun stop.run).opener.vault.files stop.left) (always.reads between.asked between.words between.command_is) (always.moments stop.left between.stands)
         ∙ between.files_are
 
     -- ---- all of them

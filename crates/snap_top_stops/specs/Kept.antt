@@ -7,11 +7,11 @@ use Rattle.disk_model.specs.Sink.{SinkView}
 use Rattle.disk_model.specs.Tree.{Tree}
 use Rattle.disk_model.specs.Vault.{VaultView}
 use Rattle.snap_sync.specs.Part.{tree_at}
-use Rattle.snap_top.specs.Resumed.{RunOf}
+use Rattle.snap_top.specs.RunOf.{RunOf}
 use Rattle.snap_top.specs.Standing.{BeginsOver, IsHistory, IsOrigin, Stage, Standing, after_of, before_of}
 use Rattle.snap_top.specs.Step.{RunStep}
 use Rattle.snap_top.specs.Stopping.{FolderStandsIn}
-use Rattle.snap_top.specs.Task.{has_fixed}
+use Rattle.snap_top.specs.Effect.{effect}
 use Rattle.snap_top.specs.Views.{folder_at}
 
 module _ {O F V W : Type 0} (opener_view : O → OpenerView) (folder_view : F → FolderView) (vault_view : V → VaultView) (sink_view : W → SinkView) where
@@ -27,7 +27,7 @@ module _ {O F V W : Type 0} (opener_view : O → OpenerView) (folder_view : F �
     pub begins : BeginsOver standing (before_of opener_view folder_view vault_view sink_view run)
     pub step : RunStep (before_of opener_view folder_view vault_view sink_view run) (after_of opener_view folder_view vault_view sink_view run) run.status
     pub opened : (after_of opener_view folder_view vault_view sink_view run).has_vault ≡ true
-    pub none : has_fixed step.always.did ≡ false
+    pub none : (effect step.always.did).writes_files ≡ false
     pub left : Tree
     pub stands : FolderStandsIn (before_of opener_view folder_view vault_view sink_view run) (after_of opener_view folder_view vault_view sink_view run) 0 left
     pub some : tree_at standing.trees 0 ≢ finite_map.empty

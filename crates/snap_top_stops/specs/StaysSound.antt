@@ -9,13 +9,15 @@ use Rattle.disk_model.specs.Vault.{VaultView}
 use Rattle.snap_config.specs.declared.options.Command.TheVariants as commands
 use Rattle.snap_config.specs.declared.options.Options.{Options}
 use Rattle.array_setup.specs.declared.ways.SyncWay.{SyncWay}
-use Rattle.snap_top.specs.History.{AreSoundBy, Changes, IsChange, IsHistory, LastSynced, Runs, StaysSound, Step, synced_by}
-use Rattle.snap_top.specs.Moment.{StandsAfter, SyncsToItsEnd}
-use Rattle.snap_top.specs.Opening.{asked_by}
-use Rattle.snap_top.specs.Resumed.{StoppedRun}
+use Rattle.snap_top.specs.History.{Changes, IsHistory, Runs, StaysSound, Step}
+use Rattle.snap_top.specs.LastSynced.{AreSoundBy, IsChange, LastSynced, synced_by}
+use Rattle.snap_top.specs.Moment.{SyncsToItsEnd}
+use Rattle.snap_top.specs.Stands.{StandsAfter}
+use Rattle.snap_top.specs.Asked.{asked_by}
+use Rattle.snap_top.specs.RunOf.{StoppedRun}
 use Rattle.snap_top.specs.Standing.{after_of, before_of}
 use Rattle.snap_top.specs.Sync.{HasNoCopy}
-use Rattle.snap_top.specs.Task.{Did}
+use Rattle.snap_top.specs.Did.{Did}
 
 -- all blocks of the first level count as changed from outside
 abbrev pub first_level : ℕ → ℕ → Bool

@@ -18,12 +18,12 @@ use Rattle.snap_sync.specs.Part.{tree_at, trees_of}
 use Rattle.stripe_examiner.specs.Facts.{StripeFacts}
 use Rattle.repair_scope.specs.Plan.{cell_at}
 use Rattle.snap_top.specs.Fix.{FixRun}
-use Rattle.snap_top.specs.Resumed.{RunOf}
+use Rattle.snap_top.specs.RunOf.{RunOf}
 use Rattle.snap_top.specs.Spared.{IsLeftAlone, SparesRest}
 use Rattle.snap_top.specs.Standing.{GoesOver, IsHistory, IsOrigin, Stage, Standing, after_of}
 use Rattle.snap_top.specs.Stopping.{stop_of}
 use Rattle.snap_top.specs.Sync.{IsFirstContent}
-use Rattle.snap_top.specs.Task.{fixes}
+use Rattle.snap_top.specs.Did.{fixes}
 
 -- all missing files, and nothing else
 abbrev pub missing_alone : Selection
@@ -80,7 +80,7 @@ module _ {O F V W : Type 0} (opener_view : O → OpenerView) (folder_view : F �
     pub goes : GoesOver opener_view folder_view vault_view sink_view run standing next
     pub did_is : goes.step.always.did ≡ fixes failed fix
     pub stopped : next.trees ≡ standing.trees
-    pub spares : SparesRest fix standing next
+    pub spares : SparesRest fix standing.trees next.trees standing.files next.files
 
   -- A fix of what stood after a history left the first disk other files than it had. It may be stopped before any of its calls of the folders was
   -- done. There, and where the trees are those at its end, it leaves a cell alone of which a file stands.

@@ -12,12 +12,14 @@ use Rattle.file_table.specs.Table.{TableValue}
 use Rattle.array_setup.specs.Setup.{SetupValue}
 use Rattle.snap_sync.specs.Part.{IsFullSync, SyncRun}
 use Rattle.snap_sync.specs.Resumed.{EndsAs}
-use Rattle.snap_top.specs.History.{AreSoundBy, LastSynced}
-use Rattle.snap_top.specs.Moment.{IsSoundAlways, LoadsWell}
-use Rattle.snap_top.specs.Resumed.{AreStoppedRuns, EndAlike, EndsClean, IsBetween, IsStopped, RunOf, StoppedRun}
+use Rattle.snap_top.specs.LastSynced.{AreSoundBy, LastSynced}
+use Rattle.snap_top.specs.Moment.{IsSoundAlways}
+use Rattle.snap_top.specs.Effect.{effect}
+use Rattle.snap_top.specs.Resumed.{AreStoppedRuns, EndsClean, IsBetween, IsStopped, AreStopped, IsOfArray, Stop, SyncsFrom}
+use Rattle.snap_top.specs.RunOf.{RunOf, StoppedRun}
 use Rattle.snap_top.specs.Standing.{after_of, before_of}
-use Rattle.snap_top.specs.Sync.{AreStopped, HasNoCopy, IsOfArray, Stop, SyncsFrom}
-use Rattle.snap_top.specs.Task.{syncs}
+use Rattle.snap_top.specs.Sync.{HasNoCopy, EndAlike}
+use Rattle.snap_top.specs.Did.{syncs}
 
 -- Nothing counts as changed from outside.
 abbrev pub IsUnchanged : LastSynced → Type 0
@@ -93,8 +95,8 @@ module _ {O F V W : Type 0} (opener_view : O → OpenerView) (folder_view : F �
     pub did_is : always.did ≡ syncs false sync
     pub none : (copy : ℕ) → ¬ (HasFailed (before_of opener_view folder_view vault_view sink_view run).opener.vault
         (after_of opener_view folder_view vault_view sink_view run).after.vault copy)
-    pub loads : LoadsWell (before_of opener_view folder_view vault_view sink_view run) (after_of opener_view folder_view vault_view sink_view run)
-        always.did always.is_did
+    pub loads : (effect always.did).loads_well (before_of opener_view folder_view vault_view sink_view run)
+        (after_of opener_view folder_view vault_view sink_view run) always.is_did
 
   -- all three
   pub record IsResumedAll : Type 0 where

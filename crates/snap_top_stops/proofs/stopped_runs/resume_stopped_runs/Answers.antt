@@ -1,9 +1,20 @@
-use Rattle.std.proofs.Common.{sym, ◌∙◌}
+use Rattle.std.proofs.Common.{ap, sym, ◌∙◌}
 use Rattle.disk_memory.specs.Folder.{folder_view}
 use Rattle.disk_memory.specs.Sink.{sink_view}
-use Rattle.disk_memory.specs.Vault.{vault_value, vault_view}
+use Rattle.disk_memory.specs.Vault.{VaultValue, vault_value, vault_view, view_of}
 use Rattle.snap_top_stops.proofs.StoppedRunsLemmas.{all_resumed}
 use Rattle.snap_top_stops.proofs.stopped_runs.resume_stopped_runs.Goals as goal
+
+-- the vault of the syncs is new
+pub sync_clean-requires-2-after_bounds : goal.sync_clean-requires-2-after_bounds
+sync_clean-requires-2-after_bounds g c κs within =
+    let made = c.in_ok-fresh_too.ensures in
+    record {
+      settled = made.settled;
+      drafts = made.drafts;
+      moment = ap (λ (value : VaultValue). (view_of value).images.moment) made.view;
+      faults = ap (λ (value : VaultValue). (view_of value).faults) made.view;
+    }
 
 pub returns : goal.returns
 returns g c =
